@@ -1,0 +1,4 @@
+pub mod Need
+pub mod Trials
+pub mod Numbers
+pub mod Alone
