@@ -16,8 +16,11 @@ pub struct Channel {
 
 impl Channel {
     pub const LEAST_C: u64 = 1;
+
     pub const MOST_C: u64 = 200;
+
     pub const LEAST_P: u64 = 1;
+
     pub const MOST_P: u64 = 60_000;
 
     pub fn has_c(c: u64) -> bool

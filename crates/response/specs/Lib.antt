@@ -1,4 +1,5 @@
 pub mod Need
 pub mod Trials
+pub mod Right
 pub mod Numbers
 pub mod Alone

@@ -1,6 +1,6 @@
 -- Document 01, "Response time", first half: what a channel needs below the rows of a link's table.
 -- A row is the `Row` of the code: its C, its p and its delay. A table is a list of rows, highest priority first.
-use Prim.Native.Nat.{ℕ, _+_, _-_, _*_, _/_}
+use Prim.Native.Nat.{ℕ, _+_, _-_, _*_, _/_, _≤_}
 use mathlib.Core.List.{List, [], _∷_}
 use Rattle.response.specs.declared.Row.{Row}
 
@@ -25,3 +25,8 @@ packets (x ∷ above) = x .c + packets above
 -- "The calculation starts at the sum of C and all C above"
 unfoldable pub start : ℕ → List Row → ℕ
 start own above = own + packets above
+
+-- every p is at least 1, as its range says: what the laws of `work` ask of a table
+abbrev pub Spaced : List Row → Type 0
+Spaced [] = Unit {0}
+Spaced (x ∷ above) = (1 ≤ x .p) × Spaced above

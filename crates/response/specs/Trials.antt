@@ -18,9 +18,9 @@ lengthAfter f s (suc k) = f (lengthAfter f s k)
 unfoldable pub tried : (ℕ → ℕ) → (limit left r k : ℕ) → Answer
 tried f limit zero r k = Nothing k
 tried f limit (suc left) r k =
-    elim (ltb limit r)
-    [ true ↦ Nothing k
-    | false ↦ elim (eqb (f r) r) [ true ↦ Found r (suc k) | false ↦ tried f limit left (f r) (suc k) ]
+    elim (ltb limit r) [
+      | true ↦ Nothing k
+      | false ↦ elim (eqb (f r) r) [ true ↦ Found r (suc k) | false ↦ tried f limit left (f r) (suc k) ]
     ]
 
 -- the answer for a channel with packets `own` below the rows `above`: the response with the number of trials, or

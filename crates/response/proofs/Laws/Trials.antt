@@ -1,0 +1,141 @@
+-- Every answer that `response` gives is right: `response-right`. Assumes nothing.
+use Prim.Native.Nat.{ℕ, zero, suc, _+_, _-_, _≤_, _<_}
+use mathlib.Core.Path.{_≡_, refl, ap, sym, _∙_, subst}
+use mathlib.Core.Logic.{_≢_}
+use mathlib.Core.List.{List}
+use native.Mathlib.Nat.{le-trans}
+use native.Mathlib.Numerals.{add-one}
+use native.Mathlib.Decide.{decLe, ℕ-discrete}
+use native.Mathlib.Omega.{arith}
+use borrow.Author.Tests.{lt-ltb, le-ltb, eq-eqb, ne-eqb}
+use borrow.Author.Count.{below-none, below-more}
+use Rattle.response.specs.declared.Row.{Row}
+use Rattle.response.specs.declared.Answer.{Answer}
+use Rattle.response.specs.declared.Answer.the-variants.{Found, Nothing}
+use Rattle.response.specs.Need.{need, start, Spaced}
+use Rattle.response.specs.Trials.{lengthAfter, tried, response}
+use Rattle.response.specs.Right.{Least, NoneWithin, Trials, Equal, Right, HasResponse}
+use Rattle.response.proofs.Laws.Need.{need-mono, start-need, own-start}
+
+-- The three ways on from length r after k trials.
+pub tried-passed : (f : ℕ → ℕ) (limit left r k : ℕ) → limit < r → tried f limit (suc left) r k ≡ Nothing k
+unfolding tried
+tried-passed f limit left r k h = rw (lt-ltb limit r h, tried)
+
+pub tried-equal : (f : ℕ → ℕ) (limit left r k : ℕ) → r ≤ limit → f r ≡ r → tried f limit (suc left) r k ≡ Found r (suc k)
+unfolding tried
+tried-equal f limit left r k h e = rw (le-ltb limit r h, eq-eqb (f r) r e, tried)
+
+pub tried-on : (f : ℕ → ℕ) (limit left r k : ℕ) → r ≤ limit → f r ≢ r
+    → tried f limit (suc left) r k ≡ tried f limit left (f r) (suc k)
+unfolding tried
+tried-on f limit left r k h e = rw (le-ltb limit r h, ne-eqb (f r) r e, tried)
+
+-- what holds of each index below k, and of k, holds of each below suc k
+upto : (P : ℕ → Type 0) (k : ℕ) → ((i : ℕ) → i < k → P i) → P k → (i : ℕ) → i < suc k → P i
+upto P k h e = subst (λ (n : ℕ). (i : ℕ) → i < n → P i) (add-one k) (below-more P k h e)
+
+module _ (f : ℕ → ℕ) (mono : (a b : ℕ) → a ≤ b → f a ≤ f b) (limit s : ℕ) where
+  -- Where the calculation stands, at length r after k trials, none of which was equal.
+  record At (left r k : ℕ) : Type 0 where
+    here : lengthAfter f s k ≡ r
+    positive : 1 ≤ r
+    rising : r ≤ f r
+    below : (x : ℕ) → 1 ≤ x → f x ≤ x → r ≤ x
+    spent : s + k ≤ r
+    few : k ≤ suc limit - s
+    enough : limit < r + left
+    inside : (i : ℕ) → i < k → lengthAfter f s i ≤ limit
+    unequal : (i : ℕ) → i < k → lengthAfter f s (suc i) ≢ lengthAfter f s i
+
+  -- one trial more, at a length within the limit, whose need is not the length
+  more : (left r k : ℕ) → At (suc left) r k → r ≤ limit → f r ≢ r → At left (f r) (suc k)
+  unfolding lengthAfter
+  more left r k a h ne =
+      let up : r < f r = omega (arith, a .rising, ne) in
+      record {
+        here = ap f (a .here);
+        positive = omega arith;
+        rising = mono r (f r) (a .rising);
+        below = λ x px hx. le-trans (mono r x (a .below x px hx)) hx;
+        spent = omega (arith, a .spent);
+        few = omega (arith, a .spent);
+        enough = omega (arith, a .enough);
+        inside = upto (λ i. lengthAfter f s i ≤ limit) k (a .inside) (rw (a .here) h);
+        unequal = upto (λ i. f (lengthAfter f s i) ≢ lengthAfter f s i) k (a .unequal) (rw (a .here) ne);
+      }
+
+  found : (left r k : ℕ) → At (suc left) r k → r ≤ limit → f r ≡ r → Right f limit s (Found r (suc k))
+  unfolding lengthAfter
+  found left r k a h e = (
+    record { positive = a .positive; within = h; enough = omega (arith, e); least = λ x px _ hx. a .below x px hx },
+    record {
+      inside = upto (λ i. lengthAfter f s i ≤ limit) k (a .inside) (rw (a .here) h);
+      unequal = λ i l. a .unequal i (omega arith);
+      few = λ _. omega (arith, a .spent);
+      none = λ l. omega (arith, a .spent);
+    },
+    record { before = k; last = refl; reached = a .here; kept = rw (a .here) e },
+  )
+
+  nothing : (left r k : ℕ) → At left r k → limit < r → Right f limit s (Nothing k)
+  nothing left r k a l = (
+    λ x px lx hx. omega (arith, a .below x px hx),
+    record {
+      inside = a .inside;
+      unequal = λ i h. a .unequal i (omega arith);
+      few = λ h. omega (arith, a .few);
+      none = λ h. omega (arith, a .few);
+    },
+    rw (a .here) l,
+  )
+
+  tried-right : (left r k : ℕ) → At left r k → Right f limit s (tried f limit left r k)
+  unfolding tried
+  tried-right zero r k a = nothing zero r k a (omega (arith, a .enough))
+  tried-right (suc left) r k a = go (decLe r limit) (ℕ-discrete (f r) r) (tried-right left (f r) (suc k))
+    where
+      go : Dec (r ≤ limit) → Dec (f r ≡ r) → (At left (f r) (suc k) → Right f limit s (tried f limit left (f r) (suc k)))
+          → Right f limit s (tried f limit (suc left) r k)
+      go (no h) e later = rw (tried-passed f limit left r k (omega (arith, h))) (nothing (suc left) r k a (omega (arith, h)))
+      go (yes h) (yes e) later = rw (tried-equal f limit left r k h e) (found left r k a h e)
+      go (yes h) (no e) later = rw (tried-on f limit left r k h e) (later (more left r k a h e))
+
+-- The answer is right where the channel has a packet and every p is at least 1.
+pub response-right : (own : ℕ) (above : List Row) (limit : ℕ) → 1 ≤ own → Spaced above
+    → Right (need own above) limit (start own above) (response own above limit)
+unfolding response lengthAfter
+response-right own above limit pos sp =
+    let s : ℕ = start own above in
+    let p : 1 ≤ s = le-trans pos (own-start own above) in
+    tried-right (need own above) (λ a b. need-mono own above a b sp) limit s (suc limit) s 0
+    (record {
+      here = refl;
+      positive = p;
+      rising = start-need own above s sp p;
+      below = λ x px hx. le-trans (start-need own above x sp px) hx;
+      spent = omega arith;
+      few = omega arith;
+      enough = omega arith;
+      inside = below-none (λ i. lengthAfter (need own above) s i ≤ limit);
+      unequal = below-none (λ i. lengthAfter (need own above) s (suc i) ≢ lengthAfter (need own above) s i);
+    })
+
+-- What a caller uses: a response found is the least; where none is found there is none; and where some length is
+-- enough, a response is found.
+module _ (own : ℕ) (above : List Row) (limit : ℕ) (pos : 1 ≤ own) (sp : Spaced above) where
+  right-of : (a : Answer) → response own above limit ≡ a → Right (need own above) limit (start own above) a
+  right-of a e = subst (Right (need own above) limit (start own above)) e (response-right own above limit pos sp)
+
+  pub found-least : (r k : ℕ) → response own above limit ≡ Found r k → Least (need own above) limit r
+  found-least r k e = right-of (Found r k) e .0
+
+  pub nothing-none : (k : ℕ) → response own above limit ≡ Nothing k → NoneWithin (need own above) limit
+  nothing-none k e = right-of (Nothing k) e .0
+
+  pub enough-found : (x : ℕ) → 1 ≤ x → x ≤ limit → need own above x ≤ x → HasResponse own above limit
+  enough-found x px lx hx = go (response own above limit) refl
+    where
+      go : (a : Answer) → response own above limit ≡ a → HasResponse own above limit
+      go (Found r k) e = record { length = r; trials = k; found = e }
+      go (Nothing k) e = absurd (nothing-none k e x px lx hx)
