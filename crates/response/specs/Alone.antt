@@ -10,15 +10,7 @@ use Rattle.response.specs.declared.Answer.the-variants.{Found, Nothing}
 use Rattle.response.specs.declared.Reply.{Reply}
 use Rattle.response.specs.declared.Reply.the-variants.{Answered, Refused}
 use Rattle.response.specs.Trials.{response}
-use Rattle.response.specs.Numbers.{rowsOf, wholeRows}
-
--- "a row's C or p": its delay is not looked at
-abbrev pub rowInRange : Row → Bool
-rowInRange x = inRangeC (x .c) && inRangeP (x .p)
-
-unfoldable pub rowsInRange : List Row → Bool
-rowsInRange [] = true
-rowsInRange (x ∷ xs) = rowInRange x && rowsInRange xs
+use Rattle.response.specs.Numbers.{rowsOf, wholeRows, rowsInRange}
 
 -- 18 is "given exactly when" this is false: "over 32 rows, a row's C or p, or the limit or own C, out of range";
 -- "the limit in 18 has p's range"

@@ -1,4 +1,16 @@
-// The response-time calculation: document 01, "Response time".
+// The response-time calculation: document 01, "Response time". A link's table is a slice of numbers here, three a row:
+// C, p and delay.
+use kinds::Channel;
+use kinds::Link;
+
+ghost use mathlib.Core.Path.{_≡_};
+ghost use mathlib.Core.Bool.{true};
+ghost use Prim.Native.Nat.{_≤_};
+ghost use Rattle.kinds.specs.Ranges.{mostP};
+ghost use Rattle.response.specs.Need.{need as needOf, start as startOf};
+ghost use Rattle.response.specs.Trials.{response as responseOf};
+ghost use Rattle.response.specs.Numbers.{rowsOf, rowsInRange, Workable};
+ghost use Rattle.response.specs.Alone.{aloneOn};
 
 // A row of a link's table: at most `c` packets every `p` slots, each message through within `delay` slots.
 pub struct Row {
@@ -18,4 +30,92 @@ pub enum Answer {
 pub enum Reply {
     Answered(Answer),
     Refused(u64, u64),
+}
+
+// The length at which the trials start: `own` and every C of the table.
+pub fn start(table: &[u64], own: u64) -> u64
+    requires { ⌜ Workable (now table) own ⌝ }
+    ensures { λ r. ⌜ r ≡ startOf own (rowsOf (now (table .entry))) ⌝ }
+{
+    let mut sum = own;
+    let mut at: usize = 0;
+    while at + 2 < table.len() {
+        sum += table[at];
+        at += 3;
+    }
+    sum
+}
+
+// The need at length `r` of a channel with packets `own` below the rows of the table.
+pub fn need(table: &[u64], own: u64, r: u64) -> u64
+    requires { ⌜ Workable (now table) own ⌝ }
+    requires { ⌜ r ≤ mostP ⌝ }
+    ensures { λ n. ⌜ n ≡ needOf own (rowsOf (now (table .entry))) r ⌝ }
+{
+    let mut sum = own;
+    let mut at: usize = 0;
+    while at + 2 < table.len() {
+        let p = table[at + 1];
+        sum += table[at] * ((r + p - 1) / p);
+        at += 3;
+    }
+    sum
+}
+
+// The response of a channel with packets `own` below the rows of the table, within `limit`.
+pub fn response_under(table: &[u64], own: u64, limit: u64) -> Answer
+    requires { ⌜ Workable (now table) own ⌝ }
+    requires { ⌜ limit ≤ mostP ⌝ }
+    ensures { λ a. ⌜ a ≡ responseOf own (rowsOf (now (table .entry))) limit ⌝ }
+{
+    let mut r = start(table, own);
+    let mut trials: u64 = 0;
+    while r <= limit {
+        let n = need(table, own, r);
+        trials += 1;
+        if n == r {
+            return Answer::Found(r, trials);
+        }
+        r = n;
+    }
+    Answer::Nothing(trials)
+}
+
+// Whether every row's C and p are in range.
+fn rows_in_range(table: &[u64]) -> bool
+    ensures { λ r. ⌜ r ≡ rowsInRange (rowsOf (now (table .entry))) ⌝ }
+{
+    let mut at: usize = 0;
+    while at + 2 < table.len() {
+        if !Channel::has_c(table[at]) {
+            return false;
+        }
+        if !Channel::has_p(table[at + 1]) {
+            return false;
+        }
+        at += 3;
+    }
+    true
+}
+
+// The public call: the response-time calculation by itself, on any numbers.
+pub fn response_alone(table: &[u64], own: u64, limit: u64) -> Reply
+    ensures { λ r. ⌜ r ≡ aloneOn (now (table .entry)) own limit ⌝ }
+{
+    if table.len() % 3 != 0 {
+        return Reply::Refused(18, 0);
+    }
+    if !Link::has_rows(table.len() / 3) {
+        return Reply::Refused(18, 0);
+    }
+    if !rows_in_range(table) {
+        return Reply::Refused(18, 0);
+    }
+    if !Channel::has_c(own) {
+        return Reply::Refused(18, 0);
+    }
+    if !Channel::has_p(limit) {
+        return Reply::Refused(18, 0);
+    }
+    Reply::Answered(response_under(table, own, limit))
 }

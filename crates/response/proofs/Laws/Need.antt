@@ -29,6 +29,10 @@ ceil-pos r p pos h = go (ceil r p) (ceil-covers r p pos)
     go zero c = omega arith
     go (suc k) c = omega arith
 
+-- rounding up by at least 1 does not enlarge
+pub ceil-self : (r p : ℕ) → 1 ≤ p → ceil r p ≤ r
+ceil-self r p pos = ceil-least r p r pos (omega (arith, mul-le-mul-left r pos))
+
 pub work-mono : (above : List Row) (a b : ℕ) → Spaced above → a ≤ b → work above a ≤ work above b
 unfolding work
 work-mono [] a b s h = omega arith
@@ -49,6 +53,14 @@ packets-work (x ∷ above) r s h =
 pub start-need : (own : ℕ) (above : List Row) (r : ℕ) → Spaced above → 1 ≤ r → start own above ≤ need own above r
 unfolding start need
 start-need own above r s h = omega (arith, packets-work above r s h)
+
+-- the first trial does not fall below the start
+pub start-rises : (own : ℕ) (above : List Row) → Spaced above → start own above ≤ need own above (start own above)
+start-rises own above s = go (start own above) refl
+  where
+    go : (r : ℕ) → start own above ≡ r → r ≤ need own above r
+    go zero e = omega arith
+    go (suc r) e = rw e at (start-need own above (suc r) s (omega arith))
 
 pub own-start : (own : ℕ) (above : List Row) → own ≤ start own above
 unfolding start

@@ -139,3 +139,57 @@ module _ (own : ℕ) (above : List Row) (limit : ℕ) (pos : 1 ≤ own) (sp : Sp
       go : (a : Answer) → response own above limit ≡ a → HasResponse own above limit
       go (Found r k) e = record { length = r; trials = k; found = e }
       go (Nothing k) e = absurd (nothing-none k e x px lx hx)
+
+-- The loop over the trials: at length r after k trials the answer is what is left to try from there. `n` is the need
+-- at r, as the loop has worked it out.
+pub record Trying (f : ℕ → ℕ) (limit s r k : ℕ) : Type 0 where
+  pub left : ℕ
+  pub same : tried f limit (suc limit) s 0 ≡ tried f limit left r k
+  pub enough : limit < r + left
+  pub rising : r ≤ f r
+  pub spent : k ≤ r
+
+module _ (f : ℕ → ℕ) (limit s : ℕ) where
+  pub trying-none : (r : ℕ) → r ≡ s → s ≤ f s → Trying f limit s r 0
+  trying-none r e h =
+      rw e (record { left = suc limit; same = refl; enough = omega arith; rising = h; spent = omega arith })
+
+  -- within the limit something is left to try
+  more-left : (r k : ℕ) → Trying f limit s r k → r ≤ limit
+      → (left : ℕ) × (tried f limit (suc limit) s 0 ≡ tried f limit (suc left) r k) × (limit < r + suc left)
+  more-left r k t h = go (t .left) (t .same) (t .enough)
+    where
+      go : (left : ℕ) → tried f limit (suc limit) s 0 ≡ tried f limit left r k → limit < r + left
+          → (left : ℕ) × (tried f limit (suc limit) s 0 ≡ tried f limit (suc left) r k) × (limit < r + suc left)
+      go zero q l = absurd (omega arith)
+      go (suc left) q l = (left, q, l)
+
+  pub trying-equal : (r k n : ℕ) → Trying f limit s r k → r ≤ limit → n ≡ f r → n ≡ r
+      → Found r (k + 1) ≡ tried f limit (suc limit) s 0
+  trying-equal r k n t h q e =
+      let (left, same, enough) = more-left r k t h in
+      rw (add-one k, same, tried-equal f limit left r k h (sym q ∙ e))
+
+  pub trying-less : (r k n : ℕ) → Trying f limit s r k → r ≤ limit → n ≡ f r → n ≢ r → suc limit - n < suc limit - r
+  trying-less r k n t h q e = omega (arith, t .rising, e)
+
+  pub trying-on : ((a b : ℕ) → a ≤ b → f a ≤ f b) → (r k n : ℕ) → Trying f limit s r k → r ≤ limit → n ≡ f r → n ≢ r
+      → Trying f limit s n (k + 1)
+  trying-on mono r k n t h q e =
+      let (left, same, enough) = more-left r k t h in
+      let ne : f r ≢ r = λ x. e (q ∙ x) in
+      record
+        { left = left
+        ; same = rw (add-one k, q) (same ∙ tried-on f limit left r k h ne)
+        ; enough = omega (arith, t .rising, e)
+        ; rising = rw q (mono r (f r) (t .rising))
+        ; spent = omega (arith, t .spent, t .rising, e)
+        }
+
+  pub trying-passed : (r k : ℕ) → Trying f limit s r k → limit < r → Nothing k ≡ tried f limit (suc limit) s 0
+  unfolding tried
+  trying-passed r k t h = go (t .left) (t .same)
+    where
+      go : (left : ℕ) → tried f limit (suc limit) s 0 ≡ tried f limit left r k → Nothing k ≡ tried f limit (suc limit) s 0
+      go zero q = sym q
+      go (suc left) q = sym (q ∙ tried-passed f limit left r k h)

@@ -1,0 +1,69 @@
+-- `response::response_under` meets its contract: each turn is one trial, and the answer is what is left to try.
+-- Assumes nothing.
+use Prim.Native.Nat.{ℕ, suc, _-_, _≤_}
+use mathlib.Core.Path.{_≡_, sym, _∙_}
+use native.Mathlib.Omega.{arith}
+use borrow.Author.Needs.{needs}
+use Rattle.response.specs.Need.{need, start, Spaced}
+use Rattle.response.specs.Numbers.{rowsOf}
+use Rattle.response.specs.Trials.{response}
+use Rattle.response.proofs.Laws.Need.{need-mono, start-rises}
+use Rattle.response.proofs.Laws.Trials.{Trying, trying-none, trying-equal, trying-less, trying-on, trying-passed}
+use Rattle.response.proofs.Laws.Numbers.{ranged-spaced}
+use Rattle.response.proofs.response_under.Statement.{statement}
+use Rattle.response.proofs.response_under.Tie as tie
+use Rattle.response.proofs.response_under.Reads as reads
+use Rattle.response.proofs.response_under.Lts as lts
+use Rattle.response.proofs.need.Reads as need-reads
+use Rattle.response.proofs.start.Reads as start-reads
+
+abbrev Inv-loop : tie.InvT-loop
+Inv-loop table own limit r₀ trials₀ r trials = Trying (need own (rowsOf table)) limit (start own (rowsOf table)) r trials
+
+abbrev μ-loop : tie.MeasureT-loop
+μ-loop table own limit r₀ trials₀ r trials = suc limit - r
+
+-- the rows are at least a slot apart, as the function requires
+spaced : (c : tie.Start Inv-loop μ-loop) → Spaced (rowsOf (c .args .table .now))
+spaced c = ranged-spaced _ (c .pre .0 .ranged)
+
+start-requires : tie.Need-start-requires Inv-loop μ-loop
+start-requires c κs = search needs
+
+loop-holds : tie.Need-loop-holds Inv-loop μ-loop
+loop-holds c = trying-none _ _ _ _ (c .start .ensures) (start-rises _ _ (spaced (c .before .before)))
+
+need-requires : tie.Need-need-requires Inv-loop μ-loop
+need-requires c κs = (c .before .before .before .before .pre .0, omega arith)
+
+add-trials : tie.Need-add-trials Inv-loop μ-loop
+add-trials c = omega arith
+
+returns : tie.Need-returns Inv-loop μ-loop
+unfolding response
+returns c = trying-equal _ _ _ _ _ _ (c .before .before .before .loop .inv) (c .before .before .loop-test .taken) (c .before .need .ensures) (c .if1 .taken)
+
+loop-less : tie.Need-loop-less Inv-loop μ-loop
+loop-less c = trying-less _ _ _ _ _ _ (c .before .before .before .loop .inv) (c .before .before .loop-test .taken) (c .before .need .ensures) (c .if1 .left)
+
+loop-again : tie.Need-loop-again Inv-loop μ-loop
+loop-again c = trying-on _ _ _ (λ a b. need-mono _ _ a b (spaced (c .before .before .before .before .before .before))) _ _ _ (c .before .before .before .loop .inv) (c .before .before .loop-test .taken) (c .before .need .ensures) (c .if1 .left)
+
+returns-2 : tie.Need-returns-2 Inv-loop μ-loop
+unfolding response
+returns-2 c = trying-passed _ _ _ _ _ (c .before .loop .inv) (c .loop-test .left)
+
+pub response-under-spec : {M : Type 1} → statement M
+response-under-spec =
+    tie.close
+    (tie.spec
+    Inv-loop
+    μ-loop
+    start-requires
+    loop-holds
+    need-requires
+    add-trials
+    returns
+    loop-less
+    loop-again
+    returns-2)
