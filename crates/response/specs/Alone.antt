@@ -28,15 +28,16 @@ alone rows own limit = elim (askable rows own limit) [ true ↦ Answered (respon
 unfoldable pub aloneOn : List ℕ → (own limit : ℕ) → Reply
 aloneOn numbers own limit = elim (wholeRows numbers) [ true ↦ alone (rowsOf numbers) own limit | false ↦ refused18 ]
 
--- Each case of the answer in document 01's numbers: the refusal's number and place (0 and 0 where the call ran),
--- the response (0 where there is none: a response is at least 1) and the number of trials.
+-- Each case of the answer in document 01's numbers: the refusal's number and place, 0 and 0 where the call ran; the
+-- response, 0 where there is none (a response is at least 1); the number of trials. A refusal writes no output:
+-- `response` and `trials` then stay as they were before the call.
 pub record Values : Type 0 where
   pub number : ℕ
   pub place : ℕ
   pub response : ℕ
   pub trials : ℕ
 
-abbrev pub valuesOf : Reply → Values
-valuesOf (Answered (Found r k)) = record { number = 0; place = 0; response = r; trials = k }
-valuesOf (Answered (Nothing k)) = record { number = 0; place = 0; response = 0; trials = k }
-valuesOf (Refused n at) = record { number = n; place = at; response = 0; trials = 0 }
+abbrev pub valuesOf : Reply → (response trials : ℕ) → Values
+valuesOf (Answered (Found r k)) response trials = record { number = 0; place = 0; response = r; trials = k }
+valuesOf (Answered (Nothing k)) response trials = record { number = 0; place = 0; response = 0; trials = k }
+valuesOf (Refused n at) response trials = record { number = n; place = at; response = response; trials = trials }
