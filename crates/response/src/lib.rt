@@ -56,7 +56,9 @@ pub fn need(table: &[u64], own: u64, r: u64) -> u64
     let mut at: usize = 0;
     while at + 2 < table.len() {
         let p = table[at + 1];
-        sum += table[at] * ((r + p - 1) / p);
+        // both fit 32 bits, where a division is cheaper
+        let times = (r + p - 1) as u32 / p as u32;
+        sum += table[at] * times as u64;
         at += 3;
     }
     sum

@@ -6,12 +6,12 @@ use native.Mathlib.Omega.{arith}
 use lib.ListN.{length}
 use borrow.Author.Needs.{needs}
 use Rattle.kinds.specs.Ranges.{mostC, mostP}
+use Rattle.response.specs.declared.Row.{Row}
 use Rattle.response.specs.Need.{ceil, work, need}
+use Rattle.response.proofs.Laws.Need.{ceil-self}
 use Rattle.response.proofs.Laws.Numbers.{rowAt, Bounds, Adding, adding-none, adding-more, adding-done, rest-ranged, asked-most}
 use Rattle.response.proofs.need.Statement.{statement}
 use Rattle.response.proofs.need.Tie as tie
-use Rattle.response.proofs.need.Reads as reads
-use Rattle.response.proofs.need.Lts as lts
 
 abbrev Inv-loop : tie.InvT-loop
 Inv-loop table own r sum₀ at₀ sum at = Adding (λ rows. work rows r) (mostC * mostP) table own sum at
@@ -19,14 +19,15 @@ Inv-loop table own r sum₀ at₀ sum at = Adding (λ rows. work rows r) (mostC 
 abbrev μ-loop : tie.MeasureT-loop
 μ-loop table own r sum₀ at₀ sum at = length table - at
 
--- the row that a turn adds is in range
-row : (c : tie.In-loop Inv-loop μ-loop) → Bounds (rowAt (c .before .before .args .table .now) (c .before .loop .at))
-row c = rest-ranged _ _ (c .loop-test .taken) (c .before .loop .inv .ranged) .0
+-- the row that a turn adds, which is in range, and so is what it asks for
+abbrev row : tie.In-loop Inv-loop μ-loop → Row
+row c = rowAt (c .before .before .args .table .now) (c .before .loop .at)
 
--- and so is what it asks for
-asked : (c : tie.In-loop Inv-loop μ-loop)
-    → rowAt (c .before .before .args .table .now) (c .before .loop .at) .c * ceil (c .before .before .args .r) (rowAt (c .before .before .args .table .now) (c .before .loop .at) .p) ≤ mostC * mostP
-asked c = asked-most _ _ (row c) (c .before .before .pre .1)
+ranged : (c : tie.In-loop Inv-loop μ-loop) → Bounds (row c)
+ranged c = rest-ranged _ _ (c .loop-test .taken) (c .before .loop .inv .ranged) .0
+
+asked : (c : tie.In-loop Inv-loop μ-loop) → row c .c * ceil (c .before .before .args .r) (row c .p) ≤ mostC * mostP
+asked c = asked-most _ _ (ranged c) (c .before .before .pre .1)
 
 loop-holds : tie.Need-loop-holds Inv-loop μ-loop
 loop-holds c = adding-none _ _ _ _ (c .pre .0)
@@ -43,28 +44,38 @@ mul-p c = search needs
 shared-slice-read-p : tie.Need-shared-slice-read-p Inv-loop μ-loop
 shared-slice-read-p c = omega arith
 
+add-times : tie.Need-add-times Inv-loop μ-loop
+add-times c = omega (arith, ranged (c .before))
+
+sub-times : tie.Need-sub-times Inv-loop μ-loop
+sub-times c = omega (arith, ranged (c .before))
+
+cast-times : tie.Need-cast-times Inv-loop μ-loop
+cast-times c = omega (arith, ranged (c .before))
+
+cast-times-2 : tie.Need-cast-times-2 Inv-loop μ-loop
+cast-times-2 c = omega (arith, ranged (c .before))
+
+div-times : tie.Need-div-times Inv-loop μ-loop
+div-times c = ranged (c .before) .p-least
+
 mul-sum : tie.Need-mul-sum Inv-loop μ-loop
 mul-sum c = search needs
 
 shared-slice-read-sum : tie.Need-shared-slice-read-sum Inv-loop μ-loop
 shared-slice-read-sum c = omega arith
 
-add-sum : tie.Need-add-sum Inv-loop μ-loop
-add-sum c = omega (arith, row (c .before .before))
-
-sub-sum : tie.Need-sub-sum Inv-loop μ-loop
-sub-sum c = omega (arith, row (c .before .before))
-
-div-sum : tie.Need-div-sum Inv-loop μ-loop
-div-sum c = row (c .before .before) .p-least
+cast-sum : tie.Need-cast-sum Inv-loop μ-loop
+unfolding ceil
+cast-sum c = omega (arith, ceil-self (c .before .before .before .before .args .r) _ (ranged (c .before .before) .p-least))
 
 mul-sum-2 : tie.Need-mul-sum-2 Inv-loop μ-loop
 unfolding ceil
 mul-sum-2 c = omega (arith, asked (c .before .before))
 
-add-sum-2 : tie.Need-add-sum-2 Inv-loop μ-loop
+add-sum : tie.Need-add-sum Inv-loop μ-loop
 unfolding ceil
-add-sum-2 c = omega (arith, asked (c .before .before))
+add-sum c = omega (arith, asked (c .before .before))
 
 add-at : tie.Need-add-at Inv-loop μ-loop
 add-at c = omega arith
@@ -74,7 +85,9 @@ loop-less c = omega arith
 
 loop-again : tie.Need-loop-again Inv-loop μ-loop
 unfolding ceil work
-loop-again c = adding-more _ _ _ _ _ _ _ (c .before .before .before .loop .inv) (c .before .before .loop-test .taken) (asked (c .before .before)) refl
+loop-again c =
+    let turn = c .before .before in
+    adding-more _ _ _ _ _ _ _ (turn .before .loop .inv) (turn .loop-test .taken) (asked turn) refl
 
 returns : tie.Need-returns Inv-loop μ-loop
 unfolding work need
@@ -91,13 +104,16 @@ need-spec =
     add-p
     mul-p
     shared-slice-read-p
+    add-times
+    sub-times
+    cast-times
+    cast-times-2
+    div-times
     mul-sum
     shared-slice-read-sum
-    add-sum
-    sub-sum
-    div-sum
+    cast-sum
     mul-sum-2
-    add-sum-2
+    add-sum
     add-at
     loop-less
     loop-again
