@@ -2,7 +2,6 @@
 // Every call returns the refusal number of document 01, or 0 where it ran; a refused call writes no output but `place`.
 use response::Answer;
 use response::Reply;
-
 ghost use mathlib.Core.Path.{_≡_};
 ghost use Rattle.response.specs.Alone.{Values, valuesOf, aloneOn};
 
@@ -16,10 +15,8 @@ pub extern "C" fn byanghosu_response(
     trials: &mut u64,
     place: &mut u64,
 ) -> u64
-    ensures {
-        λ r. ⌜ record { number = r; place = now (place .exit); response = now (response .exit); trials = now (trials .exit) }
-            ≡ valuesOf (aloneOn (now (table .entry)) own limit) (now (response .entry)) (now (trials .entry)) ⌝
-    }
+    ensures { λ r. ⌜ record { number = r; place = now (place .exit); response = now (response .exit); trials = now (trials .exit) }
+        ≡ valuesOf (aloneOn (now (table .entry)) own limit) (now (response .entry)) (now (trials .entry)) ⌝ }
 {
     let reply = response::response_alone(table, own, limit);
     match reply {

@@ -15,7 +15,7 @@ use Rattle.response.specs.Numbers.{rowsOf, wholeRows, rowsInRange}
 -- 18 is "given exactly when" this is false: "over 32 rows, a row's C or p, or the limit or own C, out of range";
 -- "the limit in 18 has p's range"
 abbrev pub askable : List Row → (own limit : ℕ) → Bool
-askable rows own limit = inRangeRows (length rows) && (rowsInRange rows && (inRangeC own && inRangeP limit))
+askable rows own limit = inRangeRows (length rows) && (inRangeC own && (inRangeP limit && rowsInRange rows))
 
 abbrev pub refused18 : Reply
 refused18 = Refused 18 0
@@ -24,9 +24,13 @@ refused18 = Refused 18 0
 unfoldable pub alone : List Row → (own limit : ℕ) → Reply
 alone rows own limit = elim (askable rows own limit) [ true ↦ Answered (response own rows limit) | false ↦ refused18 ]
 
--- the answer to the call on numbers, three a row; a part of a row left over is refused too
+-- the same on numbers, three a row: a part of a row left over is refused too
+abbrev pub askableOn : List ℕ → (own limit : ℕ) → Bool
+askableOn numbers own limit = wholeRows numbers && askable (rowsOf numbers) own limit
+
 unfoldable pub aloneOn : List ℕ → (own limit : ℕ) → Reply
-aloneOn numbers own limit = elim (wholeRows numbers) [ true ↦ alone (rowsOf numbers) own limit | false ↦ refused18 ]
+aloneOn numbers own limit =
+    elim (askableOn numbers own limit) [ true ↦ Answered (response own (rowsOf numbers) limit) | false ↦ refused18 ]
 
 -- Each case of the answer in document 01's numbers: the refusal's number and place, 0 and 0 where the call ran; the
 -- response, 0 where there is none (a response is at least 1); the number of trials. A refusal writes no output:

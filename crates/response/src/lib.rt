@@ -2,7 +2,6 @@
 // C, p and delay.
 use kinds::Channel;
 use kinds::Link;
-
 ghost use mathlib.Core.Path.{_≡_};
 ghost use mathlib.Core.Bool.{true};
 ghost use Prim.Native.Nat.{_≤_};
@@ -10,7 +9,7 @@ ghost use Rattle.kinds.specs.Ranges.{mostP};
 ghost use Rattle.response.specs.Need.{need as needOf, start as startOf};
 ghost use Rattle.response.specs.Trials.{response as responseOf};
 ghost use Rattle.response.specs.Numbers.{rowsOf, rowsInRange, Workable};
-ghost use Rattle.response.specs.Alone.{aloneOn};
+ghost use Rattle.response.specs.Alone.{askableOn, aloneOn};
 
 // A row of a link's table: at most `c` packets every `p` slots, each message through within `delay` slots.
 pub struct Row {
@@ -37,13 +36,13 @@ pub fn start(table: &[u64], own: u64) -> u64
     requires { ⌜ Workable (now table) own ⌝ }
     ensures { λ r. ⌜ r ≡ startOf own (rowsOf (now (table .entry))) ⌝ }
 {
-    let mut sum = own;
+    let mut length = own;
     let mut at: usize = 0;
     while at + 2 < table.len() {
-        sum += table[at];
+        length += table[at];
         at += 3;
     }
-    sum
+    length
 }
 
 // The need at length `r` of a channel with packets `own` below the rows of the table.
@@ -100,24 +99,32 @@ fn rows_in_range(table: &[u64]) -> bool
     true
 }
 
+// Whether the calculation may be asked for: whole rows, not too many, every number in range.
+fn is_askable(table: &[u64], own: u64, limit: u64) -> bool
+    ensures { λ r. ⌜ r ≡ askableOn (now (table .entry)) own limit ⌝ }
+{
+    if table.len() % 3 != 0 {
+        return false;
+    }
+    if !Link::has_rows(table.len() / 3) {
+        return false;
+    }
+    if !Channel::has_c(own) {
+        return false;
+    }
+    if !Channel::has_p(limit) {
+        return false;
+    }
+    rows_in_range(table)
+}
+
 // The public call: the response-time calculation by itself, on any numbers.
 pub fn response_alone(table: &[u64], own: u64, limit: u64) -> Reply
     ensures { λ r. ⌜ r ≡ aloneOn (now (table .entry)) own limit ⌝ }
 {
-    if table.len() % 3 != 0 {
-        return Reply::Refused(18, 0);
+    if is_askable(table, own, limit) {
+        Reply::Answered(response_under(table, own, limit))
+    } else {
+        Reply::Refused(18, 0)
     }
-    if !Link::has_rows(table.len() / 3) {
-        return Reply::Refused(18, 0);
-    }
-    if !rows_in_range(table) {
-        return Reply::Refused(18, 0);
-    }
-    if !Channel::has_c(own) {
-        return Reply::Refused(18, 0);
-    }
-    if !Channel::has_p(limit) {
-        return Reply::Refused(18, 0);
-    }
-    Reply::Answered(response_under(table, own, limit))
 }

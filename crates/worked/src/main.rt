@@ -3,7 +3,6 @@
 use libc::STDOUT_FILENO;
 use response::Answer;
 use response::Reply;
-
 ghost use Prim.Native.Nat.{_≤_};
 
 fn print(text: &[u8]) {

@@ -5,9 +5,6 @@ use Rattle.response.specs.declared.Reply.the-variants.{Answered}
 use borrow.Author.Needs.{needs}
 use Rattle.board.proofs.byanghosu_response.Statement.{statement}
 use Rattle.board.proofs.byanghosu_response.Tie as tie
-use Rattle.board.proofs.byanghosu_response.Reads as reads
-use Rattle.board.proofs.byanghosu_response.Lts as lts
-use Rattle.response.proofs.response_alone.Reads as response-alone-reads
 
 response-alone-requires : tie.Need-response-alone-requires
 response-alone-requires c κs = search needs

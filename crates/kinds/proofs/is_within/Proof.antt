@@ -3,8 +3,6 @@
 use borrow.Author.Tests.{le-leb, lt-leb}
 use Rattle.kinds.proofs.is_within.Statement.{statement}
 use Rattle.kinds.proofs.is_within.Tie as tie
-use Rattle.kinds.proofs.is_within.Reads as reads
-use Rattle.kinds.proofs.is_within.Lts as lts
 
 returns : tie.Need-returns
 returns c = simp (le-leb _ _ (c .if1 .taken))

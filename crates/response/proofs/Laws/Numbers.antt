@@ -126,12 +126,12 @@ module _ (total : List Row → ℕ) (most : ℕ) (t : List ℕ) (own : ℕ) wher
   pub adding-more : (sum at n : ℕ) → Adding total most t own sum at → at + 2 < length t → n ≤ most
       → total (rowAt t at ∷ rest t (at + 3)) ≡ n + total (rest t (at + 3)) → Adding total most t own (sum + n) (at + 3)
   adding-more sum at n a h b e =
-      record
-        { place = omega arith
-        ; whole = omega (arith, a .whole, ap total (rest-row t at h), e)
-        ; bound = omega (arith, a .bound)
-        ; ranged = rest-ranged t at h (a .ranged) .1
-        }
+      record {
+        place = omega arith;
+        whole = omega (arith, a .whole, ap total (rest-row t at h), e);
+        bound = omega (arith, a .bound);
+        ranged = rest-ranged t at h (a .ranged) .1;
+      }
 
   pub adding-done : (sum at : ℕ) → Adding total most t own sum at → length t ≤ at + 2 → total [] ≡ 0
       → sum ≡ own + total (rowsOf t)

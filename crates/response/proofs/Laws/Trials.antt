@@ -178,13 +178,13 @@ module _ (f : ℕ → ℕ) (limit s : ℕ) where
   trying-on mono r k n t h q e =
       let (left, same, enough) = more-left r k t h in
       let ne : f r ≢ r = λ x. e (q ∙ x) in
-      record
-        { left = left
-        ; same = rw (add-one k, q) (same ∙ tried-on f limit left r k h ne)
-        ; enough = omega (arith, t .rising, e)
-        ; rising = rw q (mono r (f r) (t .rising))
-        ; spent = omega (arith, t .spent, t .rising, e)
-        }
+      record {
+        left = left;
+        same = rw (add-one k, q) (same ∙ tried-on f limit left r k h ne);
+        enough = omega (arith, t .rising, e);
+        rising = rw q (mono r (f r) (t .rising));
+        spent = omega (arith, t .spent, t .rising, e);
+      }
 
   pub trying-passed : (r k : ℕ) → Trying f limit s r k → limit < r → Nothing k ≡ tried f limit (suc limit) s 0
   unfolding tried

@@ -12,10 +12,6 @@ use Rattle.response.proofs.Laws.Trials.{Trying, trying-none, trying-equ
 use Rattle.response.proofs.Laws.Numbers.{ranged-spaced}
 use Rattle.response.proofs.response_under.Statement.{statement}
 use Rattle.response.proofs.response_under.Tie as tie
-use Rattle.response.proofs.response_under.Reads as reads
-use Rattle.response.proofs.response_under.Lts as lts
-use Rattle.response.proofs.need.Reads as need-reads
-use Rattle.response.proofs.start.Reads as start-reads
 
 abbrev Inv-loop : tie.InvT-loop
 Inv-loop table own limit r₀ trials₀ r trials = Trying (need own (rowsOf table)) limit (start own (rowsOf table)) r trials

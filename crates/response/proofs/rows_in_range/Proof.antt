@@ -9,10 +9,6 @@ use borrow.Author.Tests.{not-true, not-false}
 use Rattle.response.proofs.Laws.Numbers.{Looking, looking-bad-c, looking-bad-p, looking-more, looking-done}
 use Rattle.response.proofs.rows_in_range.Statement.{statement}
 use Rattle.response.proofs.rows_in_range.Tie as tie
-use Rattle.response.proofs.rows_in_range.Reads as reads
-use Rattle.response.proofs.rows_in_range.Lts as lts
-use Rattle.kinds.proofs.Channel.has_c.Reads as has-c-reads
-use Rattle.kinds.proofs.Channel.has_p.Reads as has-p-reads
 
 abbrev Inv-loop : tie.InvT-loop
 Inv-loop table at₀ at = Looking table at

@@ -1,0 +1,87 @@
+-- `response::is_askable` meets its contract: the checks passed so far hold, so the next one decides.
+-- Assumes nothing.
+use Prim.Native.Nat.{ℕ}
+use mathlib.Core.Path.{_≡_, sym, _∙_, ap}
+use mathlib.Core.Bool.{true, false}
+use mathlib.Core.List.{List}
+use lib.ListN.{length}
+use borrow.Author.Needs.{needs}
+use borrow.Author.Tests.{not-true, not-false, eq-eqb, ne-eqb}
+use Rattle.kinds.specs.Ranges.{inRangeC, inRangeP, inRangeRows}
+use Rattle.response.specs.Numbers.{rowsOf, wholeRows}
+use Rattle.response.proofs.Laws.Numbers.{rows-count}
+use Rattle.response.proofs.is_askable.Statement.{statement}
+use Rattle.response.proofs.is_askable.Tie as tie
+
+abbrev numbers : tie.Start → List ℕ
+numbers c = c .args .table .now
+
+-- what each check that was passed says
+whole : (c : tie.Else1) → wholeRows (numbers (c .before .before)) ≡ true
+whole c = eq-eqb _ _ (c .if1 .left)
+
+rows : (c : tie.After-has-rows)
+    → inRangeRows (length (rowsOf (numbers (c .before .before .before)))) ≡ c .has-rows .result
+rows c = ap inRangeRows (rows-count _) ∙ sym (c .has-rows .ensures)
+
+few : (c : tie.Else2) → inRangeRows (length (rowsOf (numbers (c .before .before .before .before)))) ≡ true
+few c = rows (c .before) ∙ not-false _ (c .if2 .left)
+
+ownC : (c : tie.Else3) → inRangeC (c .before .before .before .before .before .before .args .own) ≡ true
+ownC c = sym (c .before .has-c .ensures) ∙ not-false _ (c .if3 .left)
+
+limitP : (c : tie.Else4) → inRangeP (c .before .before .before .before .before .before .before .before .args .limit) ≡ true
+limitP c = sym (c .before .has-p .ensures) ∙ not-false _ (c .if4 .left)
+
+returns : tie.Need-returns
+returns c = rw (ne-eqb _ _ (c .if1 .taken))
+
+has-rows-requires : tie.Need-has-rows-requires
+has-rows-requires c κs = search needs
+
+returns-2 : tie.Need-returns-2
+returns-2 c =
+    let one = c .before .before in
+    rw (whole one, rows (c .before) ∙ not-true _ (c .if2 .taken))
+
+has-c-requires : tie.Need-has-c-requires
+has-c-requires c κs = search needs
+
+returns-3 : tie.Need-returns-3
+returns-3 c =
+    let two = c .before .before in
+    rw (whole (two .before .before), few two, sym (c .before .has-c .ensures) ∙ not-true _ (c .if3 .taken))
+
+has-p-requires : tie.Need-has-p-requires
+has-p-requires c κs = search needs
+
+returns-4 : tie.Need-returns-4
+returns-4 c =
+    let three = c .before .before in
+    let two = three .before .before in
+    rw
+    (whole (two .before .before), few two, ownC three, sym (c .before .has-p .ensures) ∙ not-true _ (c .if4 .taken))
+
+rows-in-range-requires : tie.Need-rows-in-range-requires
+rows-in-range-requires c κs = search needs
+
+returns-5 : tie.Need-returns-5
+returns-5 c =
+    let four = c .before in
+    let three = four .before .before in
+    let two = three .before .before in
+    rw (whole (two .before .before), few two, ownC three, limitP four) (c .rows-in-range .ensures)
+
+pub is-askable-spec : {M : Type 1} → statement M
+is-askable-spec =
+    tie.close
+    (tie.spec
+    returns
+    has-rows-requires
+    returns-2
+    has-c-requires
+    returns-3
+    has-p-requires
+    returns-4
+    rows-in-range-requires
+    returns-5)
