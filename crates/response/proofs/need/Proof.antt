@@ -2,13 +2,13 @@
 -- Assumes nothing.
 use Prim.Native.Nat.{_-_, _*_, _≤_}
 use mathlib.Core.Path.{refl}
+use native.Mathlib.Nat.{lt-of-le-of-lt, div-le-self}
 use native.Mathlib.Omega.{arith}
 use lib.ListN.{length}
 use borrow.Author.Needs.{needs}
 use Rattle.kinds.specs.Ranges.{mostC, mostP}
 use Rattle.response.specs.declared.Row.{Row}
 use Rattle.response.specs.Need.{ceil, work, need}
-use Rattle.response.proofs.Laws.Need.{ceil-self}
 use Rattle.response.proofs.Laws.Numbers.{rowAt, Bounds, Adding, adding-none, adding-more, adding-done, rest-ranged, asked-most}
 use Rattle.response.proofs.need.Statement.{statement}
 use Rattle.response.proofs.need.Tie as tie
@@ -66,8 +66,7 @@ shared-slice-read-sum : tie.Need-shared-slice-read-sum Inv-loop μ-loop
 shared-slice-read-sum c = omega arith
 
 cast-sum : tie.Need-cast-sum Inv-loop μ-loop
-unfolding ceil
-cast-sum c = omega (arith, ceil-self (c .before .before .before .before .args .r) _ (ranged (c .before .before) .p-least))
+cast-sum c = record { fits = lt-of-le-of-lt (div-le-self _ _) (omega (arith, ranged (c .before .before))) }
 
 mul-sum-2 : tie.Need-mul-sum-2 Inv-loop μ-loop
 unfolding ceil
