@@ -1,0 +1,6 @@
+pub mod Ends
+pub mod Front
+pub mod Numbers
+pub mod Replies
+pub mod Steps
+pub mod Types
