@@ -3,6 +3,7 @@
 use libc::STDOUT_FILENO;
 use response::Answer;
 use response::Reply;
+use response::Row;
 ghost use Prim.Native.Nat.{_≤_};
 
 fn print(text: &[u8]) {
@@ -66,6 +67,33 @@ fn figures() {
     work(&[1, 2, 2, 1, 2, 2], 1, 60_000);
 }
 
+fn print_row(row: Row) {
+    print_next(row.c);
+    print_next(row.p);
+    print_next(row.delay);
+}
+
+// The same figure asked for in the table form: an array of rows, two of them in use.
+fn figure_in_rows() {
+    let mut rows = [Row {
+        c: 1,
+        p: 4,
+        delay: 2,
+    }; 32];
+    rows[1] = Row {
+        c: 2,
+        p: 6,
+        delay: 3,
+    };
+    print_number(b"own ", 3);
+    print_number(b" limit ", 10);
+    print(b" table");
+    print_row(rows[0]);
+    print_row(rows[1]);
+    print_reply(table::response_of_table(rows, 2, 3, 10));
+    print(b"\n");
+}
+
 // No row above, one row, a few rows.
 fn small_links() {
     work(&[], 1, 1);
@@ -123,6 +151,7 @@ fn refusals() {
 
 fn main() {
     figures();
+    figure_in_rows();
     small_links();
     full_links();
     refusals();
