@@ -182,7 +182,7 @@ impl Random {
                 for _ in 0..self.to(3) / 3 {
                     table.push(self.to(9));
                 }
-                Question { own: self.near(1, 200), limit: self.near(1, 60_000).min(2_000 + self.next()), table }
+                Question { own: self.near(1, 200), limit: self.near(1, 60_000), table }
             }
         }
     }

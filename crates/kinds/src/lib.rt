@@ -23,13 +23,13 @@ impl Channel {
 
     pub const MOST_P: u64 = 60_000;
 
-    pub fn has_c(c: u64) -> bool
+    pub fn c_in_range(c: u64) -> bool
         ensures { λ r. ⌜ r ≡ inRangeC c ⌝ }
     {
         is_within(Self::LEAST_C, Self::MOST_C, c)
     }
 
-    pub fn has_p(p: u64) -> bool
+    pub fn p_in_range(p: u64) -> bool
         ensures { λ r. ⌜ r ≡ inRangeP p ⌝ }
     {
         is_within(Self::LEAST_P, Self::MOST_P, p)
@@ -44,7 +44,7 @@ pub struct Link {
 impl Link {
     pub const MOST_ROWS: usize = 32;
 
-    pub fn has_rows(n: usize) -> bool
+    pub fn rows_fit(n: usize) -> bool
         ensures { λ r. ⌜ r ≡ inRangeRows n ⌝ }
     {
         n <= Self::MOST_ROWS

@@ -24,13 +24,12 @@ refused18 = Refused 18 0
 unfoldable pub alone : List Row → (own limit : ℕ) → Reply
 alone rows own limit = elim (askable rows own limit) [ true ↦ Answered (response own rows limit) | false ↦ refused18 ]
 
--- the same on numbers, three a row: a part of a row left over is refused too
+-- the answer to the call on numbers, three a row: a part of a row left over is refused too
+unfoldable pub aloneOn : List ℕ → (own limit : ℕ) → Reply
+aloneOn numbers own limit = elim (wholeRows numbers) [ true ↦ alone (rowsOf numbers) own limit | false ↦ refused18 ]
+
 abbrev pub askableOn : List ℕ → (own limit : ℕ) → Bool
 askableOn numbers own limit = wholeRows numbers && askable (rowsOf numbers) own limit
-
-unfoldable pub aloneOn : List ℕ → (own limit : ℕ) → Reply
-aloneOn numbers own limit =
-    elim (askableOn numbers own limit) [ true ↦ Answered (response own (rowsOf numbers) limit) | false ↦ refused18 ]
 
 -- Each case of the answer in document 01's numbers: the refusal's number and place, 0 and 0 where the call ran; the
 -- response, 0 where there is none (a response is at least 1); the number of trials. A refusal writes no output:

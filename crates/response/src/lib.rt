@@ -88,10 +88,10 @@ fn rows_in_range(table: &[u64]) -> bool
 {
     let mut at: usize = 0;
     while at + 2 < table.len() {
-        if !Channel::has_c(table[at]) {
+        if !Channel::c_in_range(table[at]) {
             return false;
         }
-        if !Channel::has_p(table[at + 1]) {
+        if !Channel::p_in_range(table[at + 1]) {
             return false;
         }
         at += 3;
@@ -106,13 +106,13 @@ fn is_askable(table: &[u64], own: u64, limit: u64) -> bool
     if table.len() % 3 != 0 {
         return false;
     }
-    if !Link::has_rows(table.len() / 3) {
+    if !Link::rows_fit(table.len() / 3) {
         return false;
     }
-    if !Channel::has_c(own) {
+    if !Channel::c_in_range(own) {
         return false;
     }
-    if !Channel::has_p(limit) {
+    if !Channel::p_in_range(limit) {
         return false;
     }
     rows_in_range(table)

@@ -1,7 +1,7 @@
 -- The call by itself, by its checks. Assumes nothing.
 use Prim.Native.Nat.{ℕ, _≤_}
-use mathlib.Core.Path.{_≡_}
-use mathlib.Core.Bool.{true, false, and-eq-true-iff}
+use mathlib.Core.Path.{_≡_, refl}
+use mathlib.Core.Bool.{Bool, true, false, and-eq-true-iff}
 use mathlib.Core.List.{List}
 use native.Mathlib.Omega.{arith}
 use lib.ListN.{length}
@@ -16,18 +16,24 @@ use Rattle.response.specs.Alone.{askable, askableOn, refused18, alone, a
 use Rattle.response.proofs.Laws.Numbers.{rows-count}
 
 module _ (t : List ℕ) (own limit : ℕ) where
-  pub refused : askableOn t own limit ≡ false → refused18 ≡ aloneOn t own limit
-  unfolding aloneOn
-  refused e = rw (e, aloneOn)
-
-  pub answered : askableOn t own limit ≡ true → Answered (response own (rowsOf t) limit) ≡ aloneOn t own limit
-  unfolding aloneOn
-  answered e = rw (e, aloneOn)
-
   -- on whole rows the call on numbers is the call on rows
   pub alone-on : wholeRows t ≡ true → aloneOn t own limit ≡ alone (rowsOf t) own limit
+  unfolding aloneOn
+  alone-on w = rw (w, aloneOn)
+
+  pub refused : askableOn t own limit ≡ false → refused18 ≡ aloneOn t own limit
   unfolding alone aloneOn
-  alone-on w = rw (w, aloneOn, alone)
+  refused e = go (wholeRows t) refl
+    where
+      go : (b : Bool) → wholeRows t ≡ b → refused18 ≡ aloneOn t own limit
+      go true w = rw (alone-on w, rw w at e, alone)
+      go false w = rw (w, aloneOn)
+
+  pub answered : askableOn t own limit ≡ true → Answered (response own (rowsOf t) limit) ≡ aloneOn t own limit
+  unfolding alone
+  answered e =
+      let w = and-eq-true-iff (wholeRows t) (askable (rowsOf t) own limit) .0 e in
+      rw (alone-on (w .0), w .1, alone)
 
   -- what may be asked can be worked out
   pub askable-workable : askableOn t own limit ≡ true → Workable t own × (limit ≤ mostP)

@@ -20,47 +20,47 @@ numbers c = c .args .table .now
 whole : (c : tie.Else1) → wholeRows (numbers (c .before .before)) ≡ true
 whole c = eq-eqb _ _ (c .if1 .left)
 
-rows : (c : tie.After-has-rows)
-    → inRangeRows (length (rowsOf (numbers (c .before .before .before)))) ≡ c .has-rows .result
-rows c = ap inRangeRows (rows-count _) ∙ sym (c .has-rows .ensures)
+rows : (c : tie.After-rows-fit)
+    → inRangeRows (length (rowsOf (numbers (c .before .before .before)))) ≡ c .rows-fit .result
+rows c = ap inRangeRows (rows-count _) ∙ sym (c .rows-fit .ensures)
 
 few : (c : tie.Else2) → inRangeRows (length (rowsOf (numbers (c .before .before .before .before)))) ≡ true
 few c = rows (c .before) ∙ not-false _ (c .if2 .left)
 
 ownC : (c : tie.Else3) → inRangeC (c .before .before .before .before .before .before .args .own) ≡ true
-ownC c = sym (c .before .has-c .ensures) ∙ not-false _ (c .if3 .left)
+ownC c = sym (c .before .c-in-range .ensures) ∙ not-false _ (c .if3 .left)
 
 limitP : (c : tie.Else4) → inRangeP (c .before .before .before .before .before .before .before .before .args .limit) ≡ true
-limitP c = sym (c .before .has-p .ensures) ∙ not-false _ (c .if4 .left)
+limitP c = sym (c .before .p-in-range .ensures) ∙ not-false _ (c .if4 .left)
 
 returns : tie.Need-returns
 returns c = rw (ne-eqb _ _ (c .if1 .taken))
 
-has-rows-requires : tie.Need-has-rows-requires
-has-rows-requires c κs = search needs
+rows-fit-requires : tie.Need-rows-fit-requires
+rows-fit-requires c κs = search needs
 
 returns-2 : tie.Need-returns-2
 returns-2 c =
     let one = c .before .before in
     rw (whole one, rows (c .before) ∙ not-true _ (c .if2 .taken))
 
-has-c-requires : tie.Need-has-c-requires
-has-c-requires c κs = search needs
+c-in-range-requires : tie.Need-c-in-range-requires
+c-in-range-requires c κs = search needs
 
 returns-3 : tie.Need-returns-3
 returns-3 c =
     let two = c .before .before in
-    rw (whole (two .before .before), few two, sym (c .before .has-c .ensures) ∙ not-true _ (c .if3 .taken))
+    rw (whole (two .before .before), few two, sym (c .before .c-in-range .ensures) ∙ not-true _ (c .if3 .taken))
 
-has-p-requires : tie.Need-has-p-requires
-has-p-requires c κs = search needs
+p-in-range-requires : tie.Need-p-in-range-requires
+p-in-range-requires c κs = search needs
 
 returns-4 : tie.Need-returns-4
 returns-4 c =
     let three = c .before .before in
     let two = three .before .before in
     rw
-    (whole (two .before .before), few two, ownC three, sym (c .before .has-p .ensures) ∙ not-true _ (c .if4 .taken))
+    (whole (two .before .before), few two, ownC three, sym (c .before .p-in-range .ensures) ∙ not-true _ (c .if4 .taken))
 
 rows-in-range-requires : tie.Need-rows-in-range-requires
 rows-in-range-requires c κs = search needs
@@ -77,11 +77,11 @@ is-askable-spec =
     tie.close
     (tie.spec
     returns
-    has-rows-requires
+    rows-fit-requires
     returns-2
-    has-c-requires
+    c-in-range-requires
     returns-3
-    has-p-requires
+    p-in-range-requires
     returns-4
     rows-in-range-requires
     returns-5)

@@ -22,37 +22,37 @@ loop-holds c = record { place = omega arith; same = refl }
 add-loop : tie.Need-add-loop Inv-loop μ-loop
 add-loop c = omega arith
 
-mul-has-c : tie.Need-mul-has-c Inv-loop μ-loop
-mul-has-c c = search needs
+mul-c-in-range : tie.Need-mul-c-in-range Inv-loop μ-loop
+mul-c-in-range c = search needs
 
-shared-slice-read-has-c : tie.Need-shared-slice-read-has-c Inv-loop μ-loop
-shared-slice-read-has-c c = omega arith
+shared-slice-read-c-in-range : tie.Need-shared-slice-read-c-in-range Inv-loop μ-loop
+shared-slice-read-c-in-range c = omega arith
 
-has-c-requires : tie.Need-has-c-requires Inv-loop μ-loop
-has-c-requires c κs = search needs
+c-in-range-requires : tie.Need-c-in-range-requires Inv-loop μ-loop
+c-in-range-requires c κs = search needs
 
 returns : tie.Need-returns Inv-loop μ-loop
 returns c =
     let i = c .before .before .before in
-    looking-bad-c _ _ (i .before .loop .inv) (i .loop-test .taken) (sym (c .before .has-c .ensures) ∙ not-true _ (c .if1 .taken))
+    looking-bad-c _ _ (i .before .loop .inv) (i .loop-test .taken) (sym (c .before .c-in-range .ensures) ∙ not-true _ (c .if1 .taken))
 
-add-has-p : tie.Need-add-has-p Inv-loop μ-loop
-add-has-p c = omega arith
+add-p-in-range : tie.Need-add-p-in-range Inv-loop μ-loop
+add-p-in-range c = omega arith
 
-mul-has-p : tie.Need-mul-has-p Inv-loop μ-loop
-mul-has-p c = search needs
+mul-p-in-range : tie.Need-mul-p-in-range Inv-loop μ-loop
+mul-p-in-range c = search needs
 
-shared-slice-read-has-p : tie.Need-shared-slice-read-has-p Inv-loop μ-loop
-shared-slice-read-has-p c = omega arith
+shared-slice-read-p-in-range : tie.Need-shared-slice-read-p-in-range Inv-loop μ-loop
+shared-slice-read-p-in-range c = omega arith
 
-has-p-requires : tie.Need-has-p-requires Inv-loop μ-loop
-has-p-requires c κs = search needs
+p-in-range-requires : tie.Need-p-in-range-requires Inv-loop μ-loop
+p-in-range-requires c κs = search needs
 
 returns-2 : tie.Need-returns-2 Inv-loop μ-loop
 returns-2 c =
     let e = c .before .before .before in
     let i = e .before .before .before in
-    looking-bad-p _ _ (i .before .loop .inv) (i .loop-test .taken) (sym (e .before .has-c .ensures) ∙ not-false _ (e .if1 .left)) (sym (c .before .has-p .ensures) ∙ not-true _ (c .if2 .taken))
+    looking-bad-p _ _ (i .before .loop .inv) (i .loop-test .taken) (sym (e .before .c-in-range .ensures) ∙ not-false _ (e .if1 .left)) (sym (c .before .p-in-range .ensures) ∙ not-true _ (c .if2 .taken))
 
 add-at : tie.Need-add-at Inv-loop μ-loop
 add-at c = omega arith
@@ -64,7 +64,7 @@ loop-again : tie.Need-loop-again Inv-loop μ-loop
 loop-again c =
     let e = c .before .before .before in
     let i = e .before .before .before in
-    looking-more _ _ (i .before .loop .inv) (i .loop-test .taken) (sym (e .before .has-c .ensures) ∙ not-false _ (e .if1 .left)) (sym (c .before .has-p .ensures) ∙ not-false _ (c .if2 .left))
+    looking-more _ _ (i .before .loop .inv) (i .loop-test .taken) (sym (e .before .c-in-range .ensures) ∙ not-false _ (e .if1 .left)) (sym (c .before .p-in-range .ensures) ∙ not-false _ (c .if2 .left))
 
 returns-3 : tie.Need-returns-3 Inv-loop μ-loop
 returns-3 c = sym (looking-done _ _ (c .before .loop .inv) (c .loop-test .left))
@@ -77,14 +77,14 @@ rows-in-range-spec =
     μ-loop
     loop-holds
     add-loop
-    mul-has-c
-    shared-slice-read-has-c
-    has-c-requires
+    mul-c-in-range
+    shared-slice-read-c-in-range
+    c-in-range-requires
     returns
-    add-has-p
-    mul-has-p
-    shared-slice-read-has-p
-    has-p-requires
+    add-p-in-range
+    mul-p-in-range
+    shared-slice-read-p-in-range
+    p-in-range-requires
     returns-2
     add-at
     loop-less
