@@ -1,0 +1,13 @@
+pub mod Lists
+pub mod Total
+pub mod Work
+pub mod Due
+pub mod Feasible
+pub mod Demand
+pub mod Opening
+pub mod Head
+pub mod Link
+pub mod Times
+pub mod Messages
+pub mod Channel
+pub mod Network
