@@ -28,8 +28,11 @@ rowsInRange [] = true
 rowsInRange (x ∷ xs) = rowInRange x && rowsInRange xs
 
 -- What the calculation asks of the numbers that it is handed, so that no sum comes near 2 ^ 64: rows in range, and not
--- thousands of them.
+-- thousands of them. The bound is wide on purpose: a table may get a row more, and own packets some more.
+abbrev pub roomy : ℕ
+roomy = 4096
+
 pub record Workable (table : List ℕ) (own : ℕ) : Type 0 where
   pub ranged : rowsInRange (rowsOf table) ≡ true
-  pub short : length table ≤ 4096
-  pub small : own ≤ 4096
+  pub short : length table ≤ roomy
+  pub small : own ≤ roomy

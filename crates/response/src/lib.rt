@@ -32,7 +32,7 @@ pub enum Reply {
 }
 
 // The length at which the trials start: `own` and every C of the table.
-pub fn start(table: &[u64], own: u64) -> u64
+fn start(table: &[u64], own: u64) -> u64
     requires { ⌜ Workable (now table) own ⌝ }
     ensures { λ r. ⌜ r ≡ startOf own (rowsOf (now (table .entry))) ⌝ }
 {
@@ -46,7 +46,7 @@ pub fn start(table: &[u64], own: u64) -> u64
 }
 
 // The need at length `r` of a channel with packets `own` below the rows of the table.
-pub fn need(table: &[u64], own: u64, r: u64) -> u64
+fn need(table: &[u64], own: u64, r: u64) -> u64
     requires { ⌜ Workable (now table) own ⌝ }
     requires { ⌜ r ≤ mostP ⌝ }
     ensures { λ n. ⌜ n ≡ needOf own (rowsOf (now (table .entry))) r ⌝ }
@@ -63,7 +63,8 @@ pub fn need(table: &[u64], own: u64, r: u64) -> u64
     sum
 }
 
-// The response of a channel with packets `own` below the rows of the table, within `limit`.
+// The response of a channel with packets `own` below the rows of the table, within `limit`. For the crates above, which
+// know that their rows are in range; the public call is `response_alone`.
 pub fn response_under(table: &[u64], own: u64, limit: u64) -> Answer
     requires { ⌜ Workable (now table) own ⌝ }
     requires { ⌜ limit ≤ mostP ⌝ }

@@ -3,6 +3,7 @@
 ghost use mathlib.Core.Path.{_≡_};
 ghost use Prim.Native.Nat.{_*_, _<_, _≤_};
 ghost use lib.ListN.{length, getD, take};
+ghost use Rattle.kinds.specs.Ranges.{mostRows};
 ghost use Rattle.table.specs.Rows.{zeroRow, filledOf, withRow, aloneOfFirst};
 ghost use Rattle.response.specs.Alone.{alone, aloneOn};
 use kinds::Link;
@@ -20,7 +21,7 @@ fn row_at(rows: &[Row], i: usize) -> Row
 
 // The numbers with the three of `row` in place i.
 fn with_row(numbers: [u64; 96], i: usize, row: Row) -> [u64; 96]
-    requires { ⌜ i < 32 ⌝ }
+    requires { ⌜ i < mostRows ⌝ }
     ensures { λ r. ⌜ r ≡ withRow numbers i row ⌝ }
 {
     let mut out = numbers;
@@ -32,7 +33,7 @@ fn with_row(numbers: [u64; 96], i: usize, row: Row) -> [u64; 96]
 
 // C, p and delay of each row in turn, then zeros.
 fn numbers_of(rows: &[Row]) -> [u64; 96]
-    requires { ⌜ length (now rows) ≤ 32 ⌝ }
+    requires { ⌜ length (now rows) ≤ mostRows ⌝ }
     ensures { λ r. ⌜ r ≡ filledOf (now (rows .entry)) ⌝ }
 {
     let mut numbers = [0u64; 96];
@@ -46,7 +47,7 @@ fn numbers_of(rows: &[Row]) -> [u64; 96]
 
 // The call by itself on the first n rows of the numbers.
 fn answer(numbers: [u64; 96], n: usize, own: u64, limit: u64) -> Reply
-    requires { ⌜ n ≤ 32 ⌝ }
+    requires { ⌜ n ≤ mostRows ⌝ }
     ensures { λ r. ⌜ r ≡ aloneOn (take (3 * n) numbers) own limit ⌝ }
 {
     response_alone(&numbers[..3 * n], own, limit)

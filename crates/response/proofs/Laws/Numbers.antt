@@ -13,7 +13,7 @@ use Rattle.kinds.specs.Ranges.{inRangeC, inRangeP, mostC, mostP}
 use Rattle.kinds.proofs.Laws.{within-true}
 use Rattle.response.specs.declared.Row.{Row}
 use Rattle.response.specs.Need.{ceil, Spaced}
-use Rattle.response.specs.Numbers.{rowsOf, rowInRange, rowsInRange, Workable}
+use Rattle.response.specs.Numbers.{rowsOf, rowInRange, rowsInRange, roomy, Workable}
 use Rattle.response.proofs.Laws.Need.{ceil-self}
 
 -- the row whose C stands at place `at`
@@ -115,7 +115,7 @@ looking-done t at l h = l .same ∙ ap rowsInRange (rest-none t at h)
 pub record Adding (total : List Row → ℕ) (most : ℕ) (t : List ℕ) (own sum at : ℕ) : Type 0 where
   pub place : at ≤ length t
   pub whole : sum + total (rest t at) ≡ own + total (rowsOf t)
-  pub bound : sum ≤ 4096 + most * at
+  pub bound : sum ≤ roomy + most * at
   pub ranged : rowsInRange (rest t at) ≡ true
 
 module _ (total : List Row → ℕ) (most : ℕ) (t : List ℕ) (own : ℕ) where

@@ -2,7 +2,7 @@
 -- Assumes nothing.
 use Prim.Native.Nat.{_-_, _*_, _≤_}
 use mathlib.Core.Path.{refl}
-use native.Mathlib.Nat.{lt-of-le-of-lt, div-le-self}
+use native.Mathlib.Nat.{le-refl, lt-of-le-of-lt, add-le-add, mul-le-mul, div-le-self}
 use native.Mathlib.Omega.{arith}
 use lib.ListN.{length}
 use borrow.Author.Needs.{needs}
@@ -69,12 +69,14 @@ cast-sum : tie.Need-cast-sum Inv-loop μ-loop
 cast-sum c = record { fits = lt-of-le-of-lt (div-le-self _ _) (omega (arith, ranged (c .before .before))) }
 
 mul-sum-2 : tie.Need-mul-sum-2 Inv-loop μ-loop
-unfolding ceil
-mul-sum-2 c = omega (arith, asked (c .before .before))
+mul-sum-2 c =
+    let x = ranged (c .before .before) in
+    record { fits = lt-of-le-of-lt (mul-le-mul (x .c-most) (div-le-self _ _)) (omega arith) }
 
 add-sum : tie.Need-add-sum Inv-loop μ-loop
-unfolding ceil
-add-sum c = omega (arith, asked (c .before .before))
+add-sum c =
+    let x = ranged (c .before .before) in
+    record { fits = lt-of-le-of-lt (add-le-add (le-refl _) (mul-le-mul (x .c-most) (div-le-self _ _))) (omega arith) }
 
 add-at : tie.Need-add-at Inv-loop μ-loop
 add-at c = omega arith
