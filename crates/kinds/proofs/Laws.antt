@@ -1,10 +1,15 @@
--- A range as a test and as two bounds. Assumes nothing.
+-- Ranges and checks as tests and as bounds, and what a constructor answers. Assumes nothing.
 use Prim.Native.Nat.{ℕ, _≤_}
-use mathlib.Core.Path.{_≡_}
-use mathlib.Core.Bool.{true, and-eq-true-iff}
-use lib.Dec.{leb}
-use borrow.Author.Tests.{le-leb, leb-true}
-use Rattle.kinds.specs.Ranges.{within}
+use mathlib.Core.Path.{_≡_, sym, _∙_}
+use mathlib.Core.Bool.{Bool, true, false, _&&_, not, and-eq-true-iff}
+use lib.Dec.{leb, eqb}
+use borrow.Author.Tests.{le-leb, leb-true, eqb-false, ne-eqb, not-true}
+use Rattle.kinds.specs.Ranges.{within, mostNode, mostHorizon, mostBuffer, mostC, mostP, mostD, mostB, inRangeNode, inRangeHorizon, inRangeBuffer}
+use Rattle.kinds.specs.Ranges.{inRangeC, inRangeP, inRangeD, inRangeB, inRangeHops}
+use Rattle.kinds.specs.Checks.{linkPasses, channelPasses, newLink, newChannel, newRoute}
+use Rattle.kinds.specs.declared.CheckedLink.the-variants as link
+use Rattle.kinds.specs.declared.CheckedChannel.the-variants as channel
+use Rattle.kinds.specs.declared.CheckedRoute.the-variants as route
 
 pub within-true : (least most n : ℕ) → within least most n ≡ true → (least ≤ n) × (n ≤ most)
 within-true least most n e =
@@ -13,3 +18,108 @@ within-true least most n e =
 
 pub true-within : (least most n : ℕ) → least ≤ n → n ≤ most → within least most n ≡ true
 true-within least most n l m = rw (le-leb least n l, le-leb n most m)
+
+-- How code goes through a chain of tests: it stops at one that is false, and goes on past one that is true.
+pub stops : (r a b : Bool) → r ≡ a → r ≡ false → r ≡ (a && b)
+stops r a b e f =
+    let h : a ≡ false = sym e ∙ f in
+    rw (h, f)
+
+pub goes : (r a b s : Bool) → r ≡ a → r ≡ true → s ≡ b → s ≡ (a && b)
+goes r a b s e t f =
+    let h : a ≡ true = sym e ∙ t in
+    rw (h, f)
+
+-- "its links pass 16", as bounds
+pub record GoodLink (from to horizon buffer : ℕ) : Type 0 where
+  pub from-most : from ≤ mostNode
+  pub to-most : to ≤ mostNode
+  pub differ : from ≡ to → ⊥
+  pub horizon-most : horizon ≤ mostHorizon
+  pub buffer-least : 1 ≤ buffer
+  pub buffer-most : buffer ≤ mostBuffer
+
+module _ (from to horizon buffer : ℕ) where
+  pub link-bounds : linkPasses from to horizon buffer ≡ true → GoodLink from to horizon buffer
+  link-bounds e =
+      let f = and-eq-true-iff (inRangeNode from) _ .0 e in
+      let t = and-eq-true-iff (inRangeNode to) _ .0 (f .1) in
+      let d = and-eq-true-iff (not (eqb from to)) _ .0 (t .1) in
+      let h = and-eq-true-iff (inRangeHorizon horizon) _ .0 (d .1) in
+      let b = within-true 1 mostBuffer buffer (h .1) in
+      record {
+        from-most = leb-true from mostNode (f .0);
+        to-most = leb-true to mostNode (t .0);
+        differ = eqb-false from to (not-true _ (d .0));
+        horizon-most = leb-true horizon mostHorizon (h .0);
+        buffer-least = b .0;
+        buffer-most = b .1;
+      }
+
+  pub bounds-link : GoodLink from to horizon buffer → linkPasses from to horizon buffer ≡ true
+  bounds-link g =
+      rw (le-leb from mostNode (g .from-most), le-leb to mostNode (g .to-most), ne-eqb from to (g .differ), le-leb horizon mostHorizon (g .horizon-most))
+      (true-within 1 mostBuffer buffer (g .buffer-least) (g .buffer-most))
+
+  pub link-good : linkPasses from to horizon buffer ≡ true
+      → link.Good (record { from = from; to = to; horizon = horizon; buffer = buffer }) ≡ newLink from to horizon buffer
+  unfolding newLink
+  link-good e = rw (e, newLink)
+
+  pub link-refused : linkPasses from to horizon buffer ≡ false → link.Refused 16 ≡ newLink from to horizon buffer
+  unfolding newLink
+  link-refused e = rw (e, newLink)
+
+-- "its channels pass 1", as bounds
+pub record GoodChannel (c p d b : ℕ) : Type 0 where
+  pub c-least : 1 ≤ c
+  pub c-most : c ≤ mostC
+  pub p-least : 1 ≤ p
+  pub p-most : p ≤ mostP
+  pub d-least : 1 ≤ d
+  pub d-most : d ≤ mostD
+  pub b-least : 1 ≤ b
+  pub b-most : b ≤ mostB
+
+module _ (c p d b : ℕ) where
+  pub channel-bounds : channelPasses c p d b ≡ true → GoodChannel c p d b
+  channel-bounds e =
+      let l = and-eq-true-iff (inRangeC c) _ .0 e in
+      let m = and-eq-true-iff (inRangeP p) _ .0 (l .1) in
+      let n = and-eq-true-iff (inRangeD d) _ .0 (m .1) in
+      let wc = within-true 1 mostC c (l .0) in
+      let wp = within-true 1 mostP p (m .0) in
+      let wd = within-true 1 mostD d (n .0) in
+      let wb = within-true 1 mostB b (n .1) in
+      record {
+        c-least = wc .0;
+        c-most = wc .1;
+        p-least = wp .0;
+        p-most = wp .1;
+        d-least = wd .0;
+        d-most = wd .1;
+        b-least = wb .0;
+        b-most = wb .1;
+      }
+
+  pub bounds-channel : GoodChannel c p d b → channelPasses c p d b ≡ true
+  bounds-channel g =
+      rw (true-within 1 mostC c (g .c-least) (g .c-most), true-within 1 mostP p (g .p-least) (g .p-most), true-within 1 mostD d (g .d-least) (g .d-most))
+      (true-within 1 mostB b (g .b-least) (g .b-most))
+
+  pub channel-good : channelPasses c p d b ≡ true → channel.Good (record { c = c; p = p; d = d; b = b }) ≡ newChannel c p d b
+  unfolding newChannel
+  channel-good e = rw (e, newChannel)
+
+  pub channel-refused : channelPasses c p d b ≡ false → channel.Refused 1 ≡ newChannel c p d b
+  unfolding newChannel
+  channel-refused e = rw (e, newChannel)
+
+module _ (hops : ℕ) where
+  pub route-good : inRangeHops hops ≡ true → route.Good (record { hops = hops }) ≡ newRoute hops
+  unfolding newRoute
+  route-good e = rw (e, newRoute)
+
+  pub route-refused : inRangeHops hops ≡ false → route.Refused 2 ≡ newRoute hops
+  unfolding newRoute
+  route-refused e = rw (e, newRoute)

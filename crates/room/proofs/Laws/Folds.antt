@@ -1,0 +1,117 @@
+-- The folds, for loops that go up from 0 and for what holds at each number. Assumes nothing.
+use Prim.Native.Nat.{ℕ, zero, suc, _+_, _*_, _≤_, _<_}
+use mathlib.Core.Path.{_≡_, refl, sym, _∙_}
+use mathlib.Core.Bool.{Bool, true, false, _&&_, _||_, and-eq-true-iff}
+use mathlib.Core.Logic.{_⊎_, inl, inr}
+use native.Mathlib.Nat.{le-of-suc-le-suc}
+use native.Mathlib.Numerals.{add-one}
+use native.Mathlib.Omega.{arith}
+use Rattle.room.specs.Folds.{every, some, firstNot, sumTo}
+
+-- a number below suc n is below n, or it is n
+pub below : {P : Type 0} (i n : ℕ) → i < suc n → (i < n → P) → (i ≡ n → P) → P
+below zero zero h l s = s refl
+below zero (suc n) h l s = l (omega arith)
+below (suc i) zero h l s = absurd (omega arith)
+below (suc i) (suc n) h l s = below i n (omega arith) (λ k. l (omega arith)) (λ e. s (rw e))
+
+and-false : (a b : Bool) → b ≡ false → (a && b) ≡ false
+and-false true b e = e
+and-false false b e = refl
+
+or-true : (a b : Bool) → b ≡ true → (a || b) ≡ true
+or-true true b e = refl
+or-true false b e = e
+
+module _ (f : ℕ → Bool) where
+  pub every-none : every f 0 ≡ true
+  unfolding every
+  every-none = refl
+
+  pub every-more : (i : ℕ) → every f i ≡ true → f i ≡ true → every f (i + 1) ≡ true
+  unfolding every
+  every-more i e h = rw (add-one i, every, e, h)
+
+  pub every-false : (n i : ℕ) → i < n → f i ≡ false → every f n ≡ false
+  unfolding every
+  every-false zero i h e = absurd (omega arith)
+  every-false (suc n) i h e =
+      below i n h (λ l. rw (every-false n i l e)) (λ s. and-false (every f n) (f n) (rw s at e))
+
+  pub every-at : (n : ℕ) → every f n ≡ true → (i : ℕ) → i < n → f i ≡ true
+  unfolding every
+  every-at zero e i h = absurd (omega arith)
+  every-at (suc n) e i h =
+      let b = and-eq-true-iff (every f n) (f n) .0 e in
+      below i n h (λ l. every-at n (b .0) i l) (λ s. rw s (b .1))
+
+  pub every-true : (n : ℕ) → ((i : ℕ) → i < n → f i ≡ true) → every f n ≡ true
+  unfolding every
+  every-true zero h = refl
+  every-true (suc n) h = rw (every-true n (λ i l. h i (omega arith)), h n (omega arith))
+
+  -- the first failure: where all before hold and this one does not
+  pub first-at : (n i : ℕ) → every f i ≡ true → f i ≡ false → i < n → firstNot f n ≡ i
+  unfolding firstNot
+  first-at zero i e h l = absurd (omega arith)
+  first-at (suc n) i e h l =
+      below i n l (λ k. rw (every-false n i k h, firstNot) (first-at n i e h k)) (λ s. rw (rw s at e, rw s at h, firstNot) (sym s))
+
+  pub first-end : (n : ℕ) → every f n ≡ true → firstNot f n ≡ n
+  unfolding every firstNot
+  first-end zero e = refl
+  first-end (suc n) e =
+      let b = and-eq-true-iff (every f n) (f n) .0 e in
+      rw (b .0, b .1, firstNot)
+
+  -- and back: it is below n only where one fails
+  pub first-below : (n : ℕ) → every f n ≡ false → firstNot f n < n
+  unfolding every firstNot
+  first-below zero e = absurd (let z : _≡_ {A = ℕ} 0 1 = cc in omega arith)
+  first-below (suc n) e = go (every f n) (f n) refl refl (λ a. first-below n a)
+    where
+      go : (a b : Bool) → every f n ≡ a → f n ≡ b → (every f n ≡ false → firstNot f n < n) → firstNot f (suc n) < suc n
+      go true true a b r = absurd (let z : true ≡ false = rw (a, b) at e in let y : _≡_ {A = ℕ} 0 1 = cc in omega arith)
+      go true false a b r = rw (a, b, firstNot) (omega arith)
+      go false b a h r = rw (a, firstNot) (omega (arith, r a))
+
+  -- some
+  pub some-none : some f 0 ≡ false
+  unfolding some
+  some-none = refl
+
+  pub some-true : (n i : ℕ) → i < n → f i ≡ true → some f n ≡ true
+  unfolding some
+  some-true zero i h e = absurd (omega arith)
+  some-true (suc n) i h e =
+      below i n h (λ l. rw (some-true n i l e)) (λ s. or-true (some f n) (f n) (rw s at e))
+
+  pub some-false : (n : ℕ) → ((i : ℕ) → i < n → f i ≡ false) → some f n ≡ false
+  unfolding some
+  some-false zero h = refl
+  some-false (suc n) h = rw (some-false n (λ i l. h i (omega arith)), h n (omega arith))
+
+-- two tests that agree below n
+pub every-same : (f g : ℕ → Bool) (n : ℕ) → ((i : ℕ) → i < n → f i ≡ g i) → every f n ≡ every g n
+unfolding every
+every-same f g zero h = refl
+every-same f g (suc n) h = rw (every-same f g n (λ i l. h i (omega arith)), h n (omega arith))
+
+module _ (f : ℕ → ℕ) where
+  pub sum-none : sumTo f 0 ≡ 0
+  unfolding sumTo
+  sum-none = refl
+
+  pub sum-more : (i : ℕ) → sumTo f (i + 1) ≡ sumTo f i + f i
+  unfolding sumTo
+  sum-more i = rw (add-one i, sumTo)
+
+  pub sum-most : (most n : ℕ) → ((i : ℕ) → i < n → f i ≤ most) → sumTo f n ≤ most * n
+  unfolding sumTo
+  sum-most most zero h = omega arith
+  sum-most most (suc n) h = omega (arith, sum-most most n (λ i l. h i (omega arith)), h n (omega arith))
+
+pub sum-same : (f g : ℕ → ℕ) (n : ℕ) → ((i : ℕ) → i < n → f i ≡ g i) → sumTo f n ≡ sumTo g n
+unfolding sumTo
+sum-same f g zero h = refl
+sum-same f g (suc n) h = rw (sum-same f g n (λ i l. h i (omega arith)), h n (omega arith))

@@ -1,0 +1,4 @@
+pub mod Layout
+pub mod Folds
+pub mod Amounts
+pub mod Route
