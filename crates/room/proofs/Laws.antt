@@ -1,3 +1,4 @@
 -- Laws of the definitions in specs/, for the crates above.
 pub mod Layout
 pub mod Folds
+pub mod Amounts

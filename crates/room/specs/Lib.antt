@@ -3,3 +3,4 @@ pub mod Folds
 pub mod Amounts
 pub mod Route
 pub mod Sound
+pub mod Ranged

@@ -50,6 +50,9 @@ module _ (f : ℕ → Bool) where
   every-true zero h = refl
   every-true (suc n) h = rw (every-true n (λ i l. h i (omega arith)), h n (omega arith))
 
+  pub every-front : (n : ℕ) → every f n ≡ true → (i : ℕ) → i ≤ n → every f i ≡ true
+  every-front n e i h = every-true i (λ k l. every-at n e k (omega arith))
+
   -- the first failure: where all before hold and this one does not
   pub first-at : (n i : ℕ) → every f i ≡ true → f i ≡ false → i < n → firstNot f n ≡ i
   unfolding firstNot
@@ -115,3 +118,26 @@ pub sum-same : (f g : ℕ → ℕ) (n : ℕ) → ((i : ℕ) → i < n → f i �
 unfolding sumTo
 sum-same f g zero h = refl
 sum-same f g (suc n) h = rw (sum-same f g n (λ i l. h i (omega arith)), h n (omega arith))
+
+-- A loop that looks at each number below n, from 0 up: all below i have passed.
+pub record Passing (f : ℕ → Bool) (n i : ℕ) : Type 0 where
+  pub place : i ≤ n
+  pub all : every f i ≡ true
+
+module _ (f : ℕ → Bool) (n : ℕ) where
+  pub passing-none : Passing f n 0
+  passing-none = record { place = omega arith; all = every-none f }
+
+  pub passing-more : (i : ℕ) → Passing f n i → i < n → f i ≡ true → Passing f n (i + 1)
+  passing-more i p h e = record { place = omega arith; all = every-more f i (p .all) e }
+
+  pub passing-done : (i : ℕ) → Passing f n i → n ≤ i → every f n ≡ true
+  passing-done i p h =
+      let e : i ≡ n = omega (arith, p .place) in
+      rw e at (p .all)
+
+  pub passing-first : (i : ℕ) → Passing f n i → i < n → f i ≡ false → i ≡ firstNot f n
+  passing-first i p h e = sym (first-at f n i (p .all) e h)
+
+  pub passing-end : (i : ℕ) → Passing f n i → n ≤ i → n ≡ firstNot f n
+  passing-end i p h = sym (first-end f n (passing-done i p h))

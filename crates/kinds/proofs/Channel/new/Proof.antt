@@ -3,19 +3,13 @@ use Rattle.kinds.proofs.Laws.{channel-good, channel-refused}
 use borrow.Author.Needs.{needs}
 use Rattle.kinds.proofs.Channel.new.Statement.{statement}
 use Rattle.kinds.proofs.Channel.new.Tie as tie
-use Rattle.kinds.proofs.Channel.new.Reads as reads
-use Rattle.kinds.proofs.Channel.new.Lts as lts
-use Rattle.kinds.proofs.Channel.passes.Reads as passes-reads
 
--- src/lib.rt:134:12
 passes-requires : tie.Need-passes-requires
 passes-requires c κs = search needs
 
--- src/lib.rt:131:5
 returns : tie.Need-returns
 returns c = channel-good _ _ _ _ (sym (c .before .passes .ensures) ∙ c .if1 .taken)
 
--- src/lib.rt:131:5
 returns-2 : tie.Need-returns-2
 returns-2 c = channel-refused _ _ _ _ (sym (c .before .passes .ensures) ∙ c .if1 .left)
 

@@ -2,42 +2,28 @@ use Rattle.kinds.proofs.Laws.{stops, goes}
 use borrow.Author.Needs.{needs}
 use Rattle.kinds.proofs.Channel.passes.Statement.{statement}
 use Rattle.kinds.proofs.Channel.passes.Tie as tie
-use Rattle.kinds.proofs.Channel.passes.Reads as reads
-use Rattle.kinds.proofs.Channel.passes.Lts as lts
-use Rattle.kinds.proofs.Channel.b_in_range.Reads as b-in-range-reads
-use Rattle.kinds.proofs.Channel.c_in_range.Reads as c-in-range-reads
-use Rattle.kinds.proofs.Channel.d_in_range.Reads as d-in-range-reads
-use Rattle.kinds.proofs.Channel.p_in_range.Reads as p-in-range-reads
 
--- src/lib.rt:128:9
 c-in-range-requires : tie.Need-c-in-range-requires
 c-in-range-requires c κs = search needs
 
--- src/lib.rt:128:33
 p-in-range-requires : tie.Need-p-in-range-requires
 p-in-range-requires c κs = search needs
 
--- src/lib.rt:128:57
 d-in-range-requires : tie.Need-d-in-range-requires
 d-in-range-requires c κs = search needs
 
--- src/lib.rt:128:80
 b-in-range-requires : tie.Need-b-in-range-requires
 b-in-range-requires c κs = search needs
 
--- src/lib.rt:125:5
 returns : tie.Need-returns
 returns c = let d = c .before in let b = d .before .before in let a = b .before .before in goes _ _ _ _ (a .before .c-in-range .ensures) (a .if1 .taken) (goes _ _ _ _ (b .before .p-in-range .ensures) (b .if2 .taken) (goes _ _ _ _ (d .before .d-in-range .ensures) (d .if3 .taken) (c .b-in-range .ensures)))
 
--- src/lib.rt:125:5
 returns-2 : tie.Need-returns-2
 returns-2 c = let b = c .before .before in let a = b .before .before in goes _ _ _ _ (a .before .c-in-range .ensures) (a .if1 .taken) (goes _ _ _ _ (b .before .p-in-range .ensures) (b .if2 .taken) (stops _ _ _ (c .before .d-in-range .ensures) (c .if3 .left)))
 
--- src/lib.rt:125:5
 returns-3 : tie.Need-returns-3
 returns-3 c = let a = c .before .before in goes _ _ _ _ (a .before .c-in-range .ensures) (a .if1 .taken) (stops _ _ _ (c .before .p-in-range .ensures) (c .if2 .left))
 
--- src/lib.rt:125:5
 returns-4 : tie.Need-returns-4
 returns-4 c = stops _ _ _ (c .before .c-in-range .ensures) (c .if1 .left)
 

@@ -3,19 +3,13 @@ use Rattle.kinds.proofs.Laws.{link-good, link-refused}
 use borrow.Author.Needs.{needs}
 use Rattle.kinds.proofs.Link.new.Statement.{statement}
 use Rattle.kinds.proofs.Link.new.Tie as tie
-use Rattle.kinds.proofs.Link.new.Reads as reads
-use Rattle.kinds.proofs.Link.new.Lts as lts
-use Rattle.kinds.proofs.Link.passes.Reads as passes-reads
 
--- src/lib.rt:51:12
 passes-requires : tie.Need-passes-requires
 passes-requires c κs = search needs
 
--- src/lib.rt:48:5
 returns : tie.Need-returns
 returns c = link-good _ _ _ _ (sym (c .before .passes .ensures) ∙ c .if1 .taken)
 
--- src/lib.rt:48:5
 returns-2 : tie.Need-returns-2
 returns-2 c = link-refused _ _ _ _ (sym (c .before .passes .ensures) ∙ c .if1 .left)
 

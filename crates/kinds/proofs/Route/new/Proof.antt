@@ -3,19 +3,13 @@ use Rattle.kinds.proofs.Laws.{route-good, route-refused}
 use borrow.Author.Needs.{needs}
 use Rattle.kinds.proofs.Route.new.Statement.{statement}
 use Rattle.kinds.proofs.Route.new.Tie as tie
-use Rattle.kinds.proofs.Route.new.Reads as reads
-use Rattle.kinds.proofs.Route.new.Lts as lts
-use Rattle.kinds.proofs.is_within.Reads as is-within-reads
 
--- src/lib.rt:165:12
 is-within-requires : tie.Need-is-within-requires
 is-within-requires c κs = search needs
 
--- src/lib.rt:162:5
 returns : tie.Need-returns
 returns c = route-good _ (sym (c .before .is-within .ensures) ∙ c .if1 .taken)
 
--- src/lib.rt:162:5
 returns-2 : tie.Need-returns-2
 returns-2 c = route-refused _ (sym (c .before .is-within .ensures) ∙ c .if1 .left)
 
