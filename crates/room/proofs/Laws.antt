@@ -2,3 +2,4 @@
 pub mod Layout
 pub mod Folds
 pub mod Amounts
+pub mod Sound
