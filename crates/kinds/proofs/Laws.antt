@@ -1,12 +1,15 @@
 -- Ranges and checks as tests and as bounds, and what a constructor answers. Assumes nothing.
 use Prim.Native.Nat.{ℕ, _≤_}
-use mathlib.Core.Path.{_≡_, sym, _∙_}
+use mathlib.Core.Path.{_≡_, refl, sym, _∙_}
 use mathlib.Core.Bool.{Bool, true, false, _&&_, not, and-eq-true-iff}
 use lib.Dec.{leb, eqb}
 use borrow.Author.Tests.{le-leb, leb-true, eqb-false, ne-eqb, not-true}
 use Rattle.kinds.specs.Ranges.{within, mostNode, mostHorizon, mostBuffer, mostC, mostP, mostD, mostB, inRangeNode, inRangeHorizon, inRangeBuffer}
 use Rattle.kinds.specs.Ranges.{inRangeC, inRangeP, inRangeD, inRangeB, inRangeHops}
 use Rattle.kinds.specs.Checks.{linkPasses, channelPasses, newLink, newChannel, newRoute}
+use Rattle.kinds.specs.declared.Link.{Link}
+use Rattle.kinds.specs.declared.Channel.{Channel}
+use Rattle.kinds.specs.declared.Route.{Route}
 use Rattle.kinds.specs.declared.CheckedLink.the-variants as link
 use Rattle.kinds.specs.declared.CheckedChannel.the-variants as channel
 use Rattle.kinds.specs.declared.CheckedRoute.the-variants as route
@@ -70,6 +73,21 @@ module _ (from to horizon buffer : ℕ) where
   unfolding newLink
   link-refused e = rw (e, newLink)
 
+  -- and what an answer says of the check
+  pub good-link : {x : Link} → newLink from to horizon buffer ≡ link.Good x → linkPasses from to horizon buffer ≡ true
+  good-link e = go (linkPasses from to horizon buffer) refl
+    where
+      go : (t : Bool) → linkPasses from to horizon buffer ≡ t → linkPasses from to horizon buffer ≡ true
+      go true h = h
+      go false h = cc (link-refused h)
+
+  pub refused-link : {n : ℕ} → newLink from to horizon buffer ≡ link.Refused n → linkPasses from to horizon buffer ≡ false
+  refused-link e = go (linkPasses from to horizon buffer) refl
+    where
+      go : (t : Bool) → linkPasses from to horizon buffer ≡ t → linkPasses from to horizon buffer ≡ false
+      go true h = cc (link-good h)
+      go false h = h
+
 -- "its channels pass 1", as bounds
 pub record GoodChannel (c p d b : ℕ) : Type 0 where
   pub c-least : 1 ≤ c
@@ -115,6 +133,21 @@ module _ (c p d b : ℕ) where
   unfolding newChannel
   channel-refused e = rw (e, newChannel)
 
+  -- and what an answer says of the check
+  pub good-channel : {x : Channel} → newChannel c p d b ≡ channel.Good x → channelPasses c p d b ≡ true
+  good-channel e = go (channelPasses c p d b) refl
+    where
+      go : (t : Bool) → channelPasses c p d b ≡ t → channelPasses c p d b ≡ true
+      go true h = h
+      go false h = cc (channel-refused h)
+
+  pub refused-channel : {n : ℕ} → newChannel c p d b ≡ channel.Refused n → channelPasses c p d b ≡ false
+  refused-channel e = go (channelPasses c p d b) refl
+    where
+      go : (t : Bool) → channelPasses c p d b ≡ t → channelPasses c p d b ≡ false
+      go true h = cc (channel-good h)
+      go false h = h
+
 module _ (hops : ℕ) where
   pub route-good : inRangeHops hops ≡ true → route.Good (record { hops = hops }) ≡ newRoute hops
   unfolding newRoute
@@ -123,3 +156,18 @@ module _ (hops : ℕ) where
   pub route-refused : inRangeHops hops ≡ false → route.Refused 2 ≡ newRoute hops
   unfolding newRoute
   route-refused e = rw (e, newRoute)
+
+  -- and what an answer says of the check
+  pub good-route : {x : Route} → newRoute hops ≡ route.Good x → inRangeHops hops ≡ true
+  good-route e = go (inRangeHops hops) refl
+    where
+      go : (t : Bool) → inRangeHops hops ≡ t → inRangeHops hops ≡ true
+      go true h = h
+      go false h = cc (route-refused h)
+
+  pub refused-route : {n : ℕ} → newRoute hops ≡ route.Refused n → inRangeHops hops ≡ false
+  refused-route e = go (inRangeHops hops) refl
+    where
+      go : (t : Bool) → inRangeHops hops ≡ t → inRangeHops hops ≡ false
+      go true h = cc (route-good h)
+      go false h = h

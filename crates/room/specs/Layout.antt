@@ -78,8 +78,11 @@ bAt c = channelAt c + 3
 abbrev pub hopsAt : ℕ → ℕ
 hopsAt c = channelAt c + 4
 
+abbrev pub routeStart : ℕ → ℕ
+routeStart c = channelAt c + 8
+
 abbrev pub routeAt : (c j : ℕ) → ℕ
-routeAt c j = channelAt c + 8 + j
+routeAt c j = routeStart c + j
 
 abbrev pub delayAt : (c j : ℕ) → ℕ
 delayAt c j = channelAt c + 16 + j

@@ -42,8 +42,8 @@ delivered w c n = leb (endOf w c n) (deliveredOf w c)
 -- the one before it, if that is on a link too
 abbrev pub follows : Store → (c n : ℕ) → Bool
 follows w c n =
-    (ltb (endOf w c n) (endOf w c (suc n)) && leb (endOf w c (suc n)) (endOf w c n + cOf w c))
-    && (delivered w c n || leb (timeOf w c n + pOf w c) (timeOf w c (suc n)))
+    (ltb (endOf w c n) (endOf w c (n + 1)) && leb (endOf w c (n + 1)) (endOf w c n + cOf w c))
+    && (delivered w c n || leb (timeOf w c n + pOf w c) (timeOf w c (n + 1)))
 
 -- message n and those before it, as far as they are not delivered: all that are not are among the `kept` last ones
 unfoldable pub inOrder : Store → (c n kept : ℕ) → Bool

@@ -5,7 +5,7 @@ use super::RING;
 ghost use mathlib.Core.Path.{_≡_};
 ghost use Prim.Native.Nat.{_<_};
 ghost use Rattle.kinds.specs.Ranges.{mostChannels, mostHops};
-ghost use Rattle.room.specs.Layout.{Long, cOf, withC, pOf, withP, dOf, withD, bOf, withB, hopsOf, withHops};
+ghost use Rattle.room.specs.Layout.{Long, routeStart, cOf, withC, pOf, withP, dOf, withD, bOf, withB, hopsOf, withHops};
 ghost use Rattle.room.specs.Layout.{messagesOf, withMessages, routeOf, withRoute, delayOf, withDelay, sentOf};
 ghost use Rattle.room.specs.Layout.{withSent, timeOf, withTime, endOf, withEnd};
 
@@ -103,6 +103,14 @@ pub fn put_messages(store: &mut [u64], c: usize, v: u64)
     ensures { λ _. ⌜ now (store .exit) ≡ withMessages (now (store .entry)) c v ⌝ }
 {
     store[CHANNELS + RECORD * c + 5] = v;
+}
+
+// Where its route starts in the store.
+pub fn route_start(c: usize) -> usize
+    requires { ⌜ c < mostChannels ⌝ }
+    ensures { λ r. ⌜ r ≡ routeStart c ⌝ }
+{
+    CHANNELS + RECORD * c + 8
 }
 
 pub fn route(store: &[u64], c: usize, j: usize) -> usize

@@ -78,7 +78,21 @@ module _ (f : ℕ → Bool) where
       go true false a b r = rw (a, b, firstNot) (omega arith)
       go false b a h r = rw (a, firstNot) (omega (arith, r a))
 
-  -- some
+  -- as tests on the number that was found
+  pub first-less : (n u : ℕ) → u ≡ firstNot f n → u < n → every f n ≡ false
+  first-less n u e h = go (every f n) refl
+    where
+      go : (t : Bool) → every f n ≡ t → every f n ≡ false
+      go true a = absurd (omega (arith, first-end n a))
+      go false a = a
+
+  pub first-all : (n u : ℕ) → u ≡ firstNot f n → n ≤ u → every f n ≡ true
+  first-all n u e h = go (every f n) refl
+    where
+      go : (t : Bool) → every f n ≡ t → every f n ≡ true
+      go true a = a
+      go false a = absurd (omega (arith, first-below n a))
+
   pub some-none : some f 0 ≡ false
   unfolding some
   some-none = refl

@@ -1,0 +1,187 @@
+// Whether a channel's record is sound: its own numbers, its route, how far it is, and its messages.
+use kinds::Channel;
+use kinds::CheckedChannel;
+use kinds::CheckedRoute;
+use kinds::Route;
+use kinds::Slot;
+use room::channel;
+ghost use mathlib.Core.Path.{_≡_};
+ghost use mathlib.Core.Bool.{true};
+ghost use Prim.Native.Nat.{_+_, _-_, _≤_, _<_};
+ghost use lib.Dec.{leb};
+ghost use Rattle.kinds.specs.Ranges.{mostLinks, mostChannels, mostHops, mostC, mostP, mostNumber};
+ghost use Rattle.room.specs.Layout.{Long, ring, linksOf, cOf, pOf, hopsOf, routeOf, timeOf};
+ghost use Rattle.room.specs.Folds.{every};
+ghost use Rattle.room.specs.Route.{routePasses};
+ghost use Rattle.room.specs.Amounts.{deliveredOf};
+ghost use Rattle.room.specs.Sound.{channelFits, placeFits, follows as followsIn, inOrder, messagesFit, channelSound};
+
+// Checks 3, 4 and 5 of the first `n` links of a channel's route.
+fn route_passes(store: &[u64], c: usize, n: usize) -> bool
+    requires { ⌜ Long (now store) ⌝ }
+    requires { ⌜ linksOf (now store) ≤ mostLinks ⌝ }
+    requires { ⌜ c < mostChannels ⌝ }
+    requires { ⌜ n ≤ mostHops ⌝ }
+    ensures { λ r. ⌜ r ≡ routePasses (now (store .entry)) (routeOf (now (store .entry)) c) n ⌝ }
+{
+    let at = channel::route_start(c);
+    if route::unknown_link(store, store, at, n) < n {
+        return false;
+    }
+    if route::repeated_link(store, at, n) < n {
+        return false;
+    }
+    route::parted_link(store, store, at, n) >= n
+}
+
+// Checks 1 to 5.
+fn channel_fits(store: &[u64], c: usize) -> bool
+    requires { ⌜ Long (now store) ⌝ }
+    requires { ⌜ linksOf (now store) ≤ mostLinks ⌝ }
+    requires { ⌜ c < mostChannels ⌝ }
+    ensures { λ r. ⌜ r ≡ channelFits (now (store .entry)) c ⌝ }
+{
+    let checked = Channel::new(
+        channel::c(store, c),
+        channel::p(store, c),
+        channel::d(store, c),
+        channel::b(store, c),
+    );
+    let CheckedChannel::Good(_) = checked else {
+        return false;
+    };
+    let hops = channel::hops(store, c);
+    let CheckedRoute::Good(_) = Route::new(hops as u64) else {
+        return false;
+    };
+    route_passes(store, c, hops)
+}
+
+// Whether at each place of the route the delay is 1 to p, and no more has been sent than has come.
+fn places_fit(store: &[u64], c: usize) -> bool
+    requires { ⌜ Long (now store) ⌝ }
+    requires { ⌜ c < mostChannels ⌝ }
+    requires { ⌜ hopsOf (now store) c ≤ mostHops ⌝ }
+    ensures { λ r. ⌜ r ≡ every (placeFits (now (store .entry)) c) (hopsOf (now (store .entry)) c) ⌝ }
+{
+    let hops = channel::hops(store, c);
+    let p = channel::p(store, c);
+    let mut entered = route::entered(store, c, 0);
+    let mut j: usize = 0;
+    while j < hops {
+        let delay = channel::delay(store, c, j);
+        if delay < 1 {
+            return false;
+        }
+        if delay > p {
+            return false;
+        }
+        let sent = channel::sent(store, c, j);
+        if sent > entered {
+            return false;
+        }
+        entered = sent;
+        j += 1;
+    }
+    true
+}
+
+// Whether messages `n` and `n + 1` are at least p apart.
+fn is_apart(store: &[u64], c: usize, n: u64) -> bool
+    requires { ⌜ Long (now store) ⌝ }
+    requires { ⌜ c < mostChannels ⌝ }
+    requires { ⌜ n < mostNumber ⌝ }
+    ensures { λ r. ⌜ r ≡ leb (timeOf (now (store .entry)) c n + pOf (now (store .entry)) c) (timeOf (now (store .entry)) c (n + 1)) ⌝ }
+{
+    let p = channel::p(store, c);
+    let later = channel::time(store, c, n + 1);
+    later >= p && channel::time(store, c, n) <= later - p
+}
+
+// Whether message `n + 1` has 1 to C packets, and is p after message `n` if that is not delivered. `sent` is what is delivered.
+fn follows(store: &[u64], c: usize, n: u64, sent: u64) -> bool
+    requires { ⌜ Long (now store) ⌝ }
+    requires { ⌜ c < mostChannels ⌝ }
+    requires { ⌜ n < mostNumber ⌝ }
+    requires { ⌜ sent ≡ deliveredOf (now store) c ⌝ }
+    ensures { λ r. ⌜ r ≡ followsIn (now (store .entry)) c n ⌝ }
+{
+    let before = channel::end(store, c, n);
+    let end = channel::end(store, c, n + 1);
+    if end <= before {
+        return false;
+    }
+    if end - before > channel::c(store, c) {
+        return false;
+    }
+    if before <= sent {
+        return true;
+    }
+    is_apart(store, c, n)
+}
+
+// Whether messages are in order, from message `last` back to one that is delivered, 23 before it at most.
+fn in_order(store: &[u64], c: usize, last: u64) -> bool
+    requires { ⌜ Long (now store) ⌝ }
+    requires { ⌜ c < mostChannels ⌝ }
+    requires { ⌜ last ≤ mostNumber ⌝ }
+    requires { ⌜ 1 ≤ hopsOf (now store) c ⌝ }
+    requires { ⌜ hopsOf (now store) c ≤ mostHops ⌝ }
+    ensures { λ r. ⌜ r ≡ inOrder (now (store .entry)) c last (ring - 1) ⌝ }
+{
+    let sent = channel::sent(store, c, channel::hops(store, c) - 1);
+    let mut n = last;
+    let mut left: u64 = 23;
+    while left > 0 {
+        if channel::end(store, c, n) <= sent {
+            return true;
+        }
+        if n == 0 {
+            return false;
+        }
+        if !follows(store, c, n - 1, sent) {
+            return false;
+        }
+        n -= 1;
+        left -= 1;
+    }
+    channel::end(store, c, n) <= sent
+}
+
+// Whether a channel's messages are in order, and their numbers not too large.
+fn messages_fit(store: &[u64], c: usize) -> bool
+    requires { ⌜ Long (now store) ⌝ }
+    requires { ⌜ c < mostChannels ⌝ }
+    requires { ⌜ cOf (now store) c ≤ mostC ⌝ }
+    requires { ⌜ 1 ≤ hopsOf (now store) c ⌝ }
+    requires { ⌜ hopsOf (now store) c ≤ mostHops ⌝ }
+    ensures { λ r. ⌜ r ≡ messagesFit (now (store .entry)) c ⌝ }
+{
+    let n = channel::messages(store, c);
+    if !Slot::is_number(n) {
+        return false;
+    }
+    if !Slot::is_number(channel::time(store, c, n)) {
+        return false;
+    }
+    if channel::end(store, c, n) > channel::c(store, c) * n {
+        return false;
+    }
+    in_order(store, c, n)
+}
+
+// Whether channel `c` is sound.
+pub fn channel_is_sound(store: &[u64], c: usize) -> bool
+    requires { ⌜ Long (now store) ⌝ }
+    requires { ⌜ linksOf (now store) ≤ mostLinks ⌝ }
+    requires { ⌜ c < mostChannels ⌝ }
+    ensures { λ r. ⌜ r ≡ channelSound (now (store .entry)) c ⌝ }
+{
+    if !channel_fits(store, c) {
+        return false;
+    }
+    if !places_fit(store, c) {
+        return false;
+    }
+    messages_fit(store, c)
+}
