@@ -33,6 +33,13 @@ goes r a b s e t f =
     let h : a ≡ true = sym e ∙ t in
     rw (h, f)
 
+-- The same where the code answers false by itself.
+pub fails : (a b : Bool) → a ≡ false → false ≡ (a && b)
+fails a b e = rw e
+
+pub passes : (a b s : Bool) → a ≡ true → s ≡ b → s ≡ (a && b)
+passes a b s e f = rw e f
+
 -- "its links pass 16", as bounds
 pub record GoodLink (from to horizon buffer : ℕ) : Type 0 where
   pub from-most : from ≤ mostNode

@@ -6,6 +6,8 @@ use mathlib.Core.Logic.{_⊎_, inl, inr}
 use native.Mathlib.Nat.{le-of-suc-le-suc}
 use native.Mathlib.Numerals.{add-one}
 use native.Mathlib.Omega.{arith}
+use lib.Dec.{leb}
+use borrow.Author.Tests.{le-leb, lt-leb}
 use Rattle.room.specs.Folds.{every, some, firstNot, sumTo}
 
 -- a number below suc n is below n, or it is n
@@ -92,6 +94,13 @@ module _ (f : ℕ → Bool) where
       go : (t : Bool) → every f n ≡ t → every f n ≡ true
       go true a = a
       go false a = absurd (omega (arith, first-below n a))
+
+  pub first-test : (n u : ℕ) → u ≡ firstNot f n → leb n u ≡ every f n
+  first-test n u e = go (every f n) refl
+    where
+      go : (t : Bool) → every f n ≡ t → leb n u ≡ every f n
+      go true a = rw a (le-leb n u (omega (arith, first-end n a)))
+      go false a = rw a (lt-leb n u (omega (arith, first-below n a)))
 
   pub some-none : some f 0 ≡ false
   unfolding some

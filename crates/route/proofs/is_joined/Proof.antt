@@ -34,10 +34,14 @@ shared-slice-read-before : tie.Need-shared-slice-read-before
 shared-slice-read-before c = search needs
 
 from-requires : tie.Need-from-requires
-from-requires c κs = let s = c .before .before .before .before .before in (s .pre .0, link-bound (s .args .store .now) (from (s .args .numbers .now) (s .args .at)) (s .args .j + 1) (s .pre .1 .1 .0) (s .pre .1 .1 .1) (s .args .j) (omega arith))
+from-requires c κs =
+    let s = c .before .before .before .before .before in
+    (s .pre .0, link-bound (s .args .store .now) (from (s .args .numbers .now) (s .args .at)) (s .args .j + 1) (s .pre .1 .1 .0) (s .pre .1 .1 .1) (s .args .j) (omega arith))
 
 to-requires : tie.Need-to-requires
-to-requires c κs = let s = c .before .before .before .before .before .before in (s .pre .0, link-bound (s .args .store .now) (from (s .args .numbers .now) (s .args .at)) (s .args .j + 1) (s .pre .1 .1 .0) (s .pre .1 .1 .1) (s .args .j - 1) (omega arith))
+to-requires c κs =
+    let s = c .before .before .before .before .before .before in
+    (s .pre .0, link-bound (s .args .store .now) (from (s .args .numbers .now) (s .args .at)) (s .args .j + 1) (s .pre .1 .1 .0) (s .pre .1 .1 .1) (s .args .j - 1) (omega arith))
 
 returns-2 : tie.Need-returns-2
 returns-2 c = joined _ _ _ (omega (arith, c .before .before .before .before .if1 .left)) _ _ (c .before .from .ensures) (c .to .ensures)

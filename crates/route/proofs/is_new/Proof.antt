@@ -38,7 +38,9 @@ shared-slice-read-if1-2 : tie.Need-shared-slice-read-if1-2 Inv-loop μ-loop
 shared-slice-read-if1-2 c = omega arith
 
 returns : tie.Need-returns Inv-loop μ-loop
-returns c = let t = c .before .before .before in sym (every-false _ _ _ (t .loop-test .taken) (ap not (eq-eqb _ _ (c .if1 .taken))))
+returns c =
+    let t = c .before .before .before in
+    sym (every-false _ _ _ (t .loop-test .taken) (ap not (eq-eqb _ _ (c .if1 .taken))))
 
 add-i : tie.Need-add-i Inv-loop μ-loop
 add-i c = omega arith
@@ -47,7 +49,9 @@ loop-less : tie.Need-loop-less Inv-loop μ-loop
 loop-less c = omega arith
 
 loop-again : tie.Need-loop-again Inv-loop μ-loop
-loop-again c = let t = c .before .before .before in passing-more _ _ _ (t .before .loop .inv) (t .loop-test .taken) (ap not (ne-eqb _ _ (c .if1 .left)))
+loop-again c =
+    let t = c .before .before .before in
+    passing-more _ _ _ (t .before .loop .inv) (t .loop-test .taken) (ap not (ne-eqb _ _ (c .if1 .left)))
 
 returns-2 : tie.Need-returns-2 Inv-loop μ-loop
 returns-2 c = sym (passing-done _ _ _ (c .before .loop .inv) (c .loop-test .left))

@@ -19,10 +19,14 @@ loop-holds : tie.Need-loop-holds Inv-loop μ-loop
 loop-holds c = passing-none _ _
 
 is-joined-requires : tie.Need-is-joined-requires Inv-loop μ-loop
-is-joined-requires c κs = let s = c .before .before .before .before in (s .pre .0, (omega arith, (s .pre .1 .1 .0, every-front _ _ (s .pre .1 .1 .1) _ (omega arith))))
+is-joined-requires c κs =
+    let s = c .before .before .before .before in
+    (s .pre .0, (omega arith, (s .pre .1 .1 .0, every-front _ _ (s .pre .1 .1 .1) _ (omega arith))))
 
 returns : tie.Need-returns Inv-loop μ-loop
-returns c = let t = c .before .before in passing-first _ _ _ (t .before .loop .inv) (t .loop-test .taken) (sym (c .before .is-joined .ensures) ∙ not-true _ (c .if1 .taken))
+returns c =
+    let t = c .before .before in
+    passing-first _ _ _ (t .before .loop .inv) (t .loop-test .taken) (sym (c .before .is-joined .ensures) ∙ not-true _ (c .if1 .taken))
 
 add-j : tie.Need-add-j Inv-loop μ-loop
 add-j c = omega arith
@@ -31,7 +35,9 @@ loop-less : tie.Need-loop-less Inv-loop μ-loop
 loop-less c = omega arith
 
 loop-again : tie.Need-loop-again Inv-loop μ-loop
-loop-again c = let t = c .before .before in passing-more _ _ _ (t .before .loop .inv) (t .loop-test .taken) (sym (c .before .is-joined .ensures) ∙ not-false _ (c .if1 .left))
+loop-again c =
+    let t = c .before .before in
+    passing-more _ _ _ (t .before .loop .inv) (t .loop-test .taken) (sym (c .before .is-joined .ensures) ∙ not-false _ (c .if1 .left))
 
 returns-2 : tie.Need-returns-2 Inv-loop μ-loop
 returns-2 c = passing-end _ _ _ (c .before .loop .inv) (c .loop-test .left)

@@ -25,7 +25,9 @@ route-requires : tie.Need-route-requires
 route-requires c κs = search needs
 
 horizon-requires : tie.Need-horizon-requires
-horizon-requires c κs = let s = c .before .before .before .before in (s .pre .0 .long, route-bound _ _ (s .pre .0) (s .args .j - 1) (omega arith) _ (c .route .ensures))
+horizon-requires c κs =
+    let s = c .before .before .before .before in
+    (s .pre .0 .long, route-bound _ _ (s .pre .0) (s .args .j - 1) (omega arith) _ (c .route .ensures))
 
 sub-delay : tie.Need-sub-delay
 sub-delay c = search needs
@@ -34,19 +36,46 @@ delay-requires : tie.Need-delay-requires
 delay-requires c κs = search needs
 
 add-early : tie.Need-add-early
-add-early c = let a = c in let r = a .before .before in let s = r .before .before .before .before in let h = horizon-bound _ _ (s .pre .0) (s .args .j - 1) (omega arith) _ _ (r .route .ensures) (a .before .horizon .ensures) in let d = delay-bounds _ _ (s .pre .0) (s .args .j - 1) (omega arith) _ (a .delay .ensures) in omega arith
+add-early c =
+    let a = c in
+    let r = a .before .before in
+    let s = r .before .before .before .before in
+    let h = horizon-bound _ _ (s .pre .0) (s .args .j - 1) (omega arith) _ _ (r .route .ensures) (a .before .horizon .ensures) in
+    let d = delay-bounds _ _ (s .pre .0) (s .args .j - 1) (omega arith) _ (a .delay .ensures) in
+    omega arith
 
 delay-requires-2 : tie.Need-delay-requires-2
 delay-requires-2 c κs = search needs
 
 add-ahead : tie.Need-add-ahead
-add-ahead c = let a = c .before in let r = a .before .before in let s = r .before .before .before .before in let h = horizon-bound _ _ (s .pre .0) (s .args .j - 1) (omega arith) _ _ (r .route .ensures) (a .before .horizon .ensures) in let d = delay-bounds _ _ (s .pre .0) (s .args .j - 1) (omega arith) _ (a .delay .ensures) in let e = delay-bounds _ _ (s .pre .0) (s .args .j) (s .pre .1) _ (c .delay2 .ensures) in omega arith
+add-ahead c =
+    let a = c .before in
+    let r = a .before .before in
+    let s = r .before .before .before .before in
+    let h = horizon-bound _ _ (s .pre .0) (s .args .j - 1) (omega arith) _ _ (r .route .ensures) (a .before .horizon .ensures) in
+    let d = delay-bounds _ _ (s .pre .0) (s .args .j - 1) (omega arith) _ (a .delay .ensures) in
+    let e = delay-bounds _ _ (s .pre .0) (s .args .j) (s .pre .1) _ (c .delay2 .ensures) in
+    omega arith
 
 sub-ahead : tie.Need-sub-ahead
-sub-ahead c = let a = c .before in let r = a .before .before in let s = r .before .before .before .before in let h = horizon-bound _ _ (s .pre .0) (s .args .j - 1) (omega arith) _ _ (r .route .ensures) (a .before .horizon .ensures) in let d = delay-bounds _ _ (s .pre .0) (s .args .j - 1) (omega arith) _ (a .delay .ensures) in let e = delay-bounds _ _ (s .pre .0) (s .args .j) (s .pre .1) _ (c .delay2 .ensures) in omega arith
+sub-ahead c =
+    let a = c .before in
+    let r = a .before .before in
+    let s = r .before .before .before .before in
+    let h = horizon-bound _ _ (s .pre .0) (s .args .j - 1) (omega arith) _ _ (r .route .ensures) (a .before .horizon .ensures) in
+    let d = delay-bounds _ _ (s .pre .0) (s .args .j - 1) (omega arith) _ (a .delay .ensures) in
+    let e = delay-bounds _ _ (s .pre .0) (s .args .j) (s .pre .1) _ (c .delay2 .ensures) in
+    omega arith
 
 cast-times : tie.Need-cast-times
-cast-times c = let a = c .before in let r = a .before .before in let s = r .before .before .before .before in let h = horizon-bound _ _ (s .pre .0) (s .args .j - 1) (omega arith) _ _ (r .route .ensures) (a .before .horizon .ensures) in let d = delay-bounds _ _ (s .pre .0) (s .args .j - 1) (omega arith) _ (a .delay .ensures) in let e = delay-bounds _ _ (s .pre .0) (s .args .j) (s .pre .1) _ (c .delay2 .ensures) in omega arith
+cast-times c =
+    let a = c .before in
+    let r = a .before .before in
+    let s = r .before .before .before .before in
+    let h = horizon-bound _ _ (s .pre .0) (s .args .j - 1) (omega arith) _ _ (r .route .ensures) (a .before .horizon .ensures) in
+    let d = delay-bounds _ _ (s .pre .0) (s .args .j - 1) (omega arith) _ (a .delay .ensures) in
+    let e = delay-bounds _ _ (s .pre .0) (s .args .j) (s .pre .1) _ (c .delay2 .ensures) in
+    omega arith
 
 p-requires : tie.Need-p-requires
 p-requires c κs = search needs
@@ -58,16 +87,40 @@ div-times : tie.Need-div-times
 div-times c = search needs
 
 cast-result : tie.Need-cast-result
-cast-result c = let a = c .before .before in let r = a .before .before in let s = r .before .before .before .before in let h = horizon-bound _ _ (s .pre .0) (s .args .j - 1) (omega arith) _ _ (r .route .ensures) (a .before .horizon .ensures) in let d = delay-bounds _ _ (s .pre .0) (s .args .j - 1) (omega arith) _ (a .delay .ensures) in let e = delay-bounds _ _ (s .pre .0) (s .args .j) (s .pre .1) _ (c .before .delay2 .ensures) in times-fit _ _ (ahead-most _ _ _ h (d .1) (e .1))
+cast-result c =
+    let a = c .before .before in
+    let r = a .before .before in
+    let s = r .before .before .before .before in
+    let h = horizon-bound _ _ (s .pre .0) (s .args .j - 1) (omega arith) _ _ (r .route .ensures) (a .before .horizon .ensures) in
+    let d = delay-bounds _ _ (s .pre .0) (s .args .j - 1) (omega arith) _ (a .delay .ensures) in
+    let e = delay-bounds _ _ (s .pre .0) (s .args .j) (s .pre .1) _ (c .before .delay2 .ensures) in
+    times-fit _ _ (ahead-most _ _ _ h (d .1) (e .1))
 
 add-result : tie.Need-add-result
-add-result c = let a = c .before .before in let r = a .before .before in let s = r .before .before .before .before in let h = horizon-bound _ _ (s .pre .0) (s .args .j - 1) (omega arith) _ _ (r .route .ensures) (a .before .horizon .ensures) in let d = delay-bounds _ _ (s .pre .0) (s .args .j - 1) (omega arith) _ (a .delay .ensures) in let e = delay-bounds _ _ (s .pre .0) (s .args .j) (s .pre .1) _ (c .before .delay2 .ensures) in more-fit _ _ (ahead-most _ _ _ h (d .1) (e .1))
+add-result c =
+    let a = c .before .before in
+    let r = a .before .before in
+    let s = r .before .before .before .before in
+    let h = horizon-bound _ _ (s .pre .0) (s .args .j - 1) (omega arith) _ _ (r .route .ensures) (a .before .horizon .ensures) in
+    let d = delay-bounds _ _ (s .pre .0) (s .args .j - 1) (omega arith) _ (a .delay .ensures) in
+    let e = delay-bounds _ _ (s .pre .0) (s .args .j) (s .pre .1) _ (c .before .delay2 .ensures) in
+    more-fit _ _ (ahead-most _ _ _ h (d .1) (e .1))
 
 mul-result-2 : tie.Need-mul-result-2
-mul-result-2 c = let a = c .before .before in let r = a .before .before in let s = r .before .before .before .before in let h = horizon-bound _ _ (s .pre .0) (s .args .j - 1) (omega arith) _ _ (r .route .ensures) (a .before .horizon .ensures) in let d = delay-bounds _ _ (s .pre .0) (s .args .j - 1) (omega arith) _ (a .delay .ensures) in let e = delay-bounds _ _ (s .pre .0) (s .args .j) (s .pre .1) _ (c .before .delay2 .ensures) in product-fits _ _ (ahead-most _ _ _ h (d .1) (e .1)) _ (packets-bound _ _ (s .pre .0) _ (r .before .before .c .ensures))
+mul-result-2 c =
+    let a = c .before .before in
+    let r = a .before .before in
+    let s = r .before .before .before .before in
+    let h = horizon-bound _ _ (s .pre .0) (s .args .j - 1) (omega arith) _ _ (r .route .ensures) (a .before .horizon .ensures) in
+    let d = delay-bounds _ _ (s .pre .0) (s .args .j - 1) (omega arith) _ (a .delay .ensures) in
+    let e = delay-bounds _ _ (s .pre .0) (s .args .j) (s .pre .1) _ (c .before .delay2 .ensures) in
+    product-fits _ _ (ahead-most _ _ _ h (d .1) (e .1)) _ (packets-bound _ _ (s .pre .0) _ (r .before .before .c .ensures))
 
 returns-2 : tie.Need-returns-2
-returns-2 c = let a = c .before .before in let r = a .before .before in reserved-on-later _ _ _ (omega (arith, r .before .if1 .left)) _ _ _ _ _ _ (r .route .ensures) (a .before .horizon .ensures) (a .delay .ensures) (c .before .delay2 .ensures) (c .p .ensures) (r .before .before .c .ensures)
+returns-2 c =
+    let a = c .before .before in
+    let r = a .before .before in
+    reserved-on-later _ _ _ (omega (arith, r .before .if1 .left)) _ _ _ _ _ _ (r .route .ensures) (a .before .horizon .ensures) (a .delay .ensures) (c .before .delay2 .ensures) (c .p .ensures) (r .before .before .c .ensures)
 
 pub reserved-spec : {M : Type 1} → statement M
 reserved-spec =

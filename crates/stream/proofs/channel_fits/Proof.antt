@@ -1,74 +1,80 @@
+-- `stream::channel_fits` meets its contract: what a constructor answers says whether its check holds. Assumes nothing.
+use mathlib.Core.Path.{sym, _∙_}
+use native.Mathlib.Omega.{arith}
+use Rattle.stream.proofs.Laws.{numbers-pass, numbers-fail, hops-most, hops-pass, hops-fail}
 use borrow.Author.Needs.{needs}
 use Rattle.stream.proofs.channel_fits.Statement.{statement}
 use Rattle.stream.proofs.channel_fits.Tie as tie
-use Rattle.stream.proofs.channel_fits.Reads as reads
-use Rattle.stream.proofs.channel_fits.Lts as lts
-use Rattle.kinds.proofs.Channel.new.Reads as Channel-new-reads
-use Rattle.kinds.proofs.Route.new.Reads as Route-new-reads
-use Rattle.room.proofs.channel.b.Reads as b-reads
-use Rattle.room.proofs.channel.c.Reads as c-reads
-use Rattle.room.proofs.channel.d.Reads as d-reads
-use Rattle.room.proofs.channel.hops.Reads as hops-reads
-use Rattle.room.proofs.channel.p.Reads as p-reads
-use Rattle.stream.proofs.route_passes.Reads as route-passes-reads
 
--- src/lib.rt:45:9
 c-requires : tie.Need-c-requires
 c-requires c κs = search needs
 
--- src/lib.rt:46:9
 p-requires : tie.Need-p-requires
 p-requires c κs = search needs
 
--- src/lib.rt:47:9
 d-requires : tie.Need-d-requires
 d-requires c κs = search needs
 
--- src/lib.rt:48:9
 b-requires : tie.Need-b-requires
 b-requires c κs = search needs
 
--- src/lib.rt:44:9
 new-requires : tie.Need-new-requires
 new-requires c κs = search needs
 
 enum-told : tie.Need-enum-told
 enum-told c = search needs
 
--- src/lib.rt:51:9
 enum-told-2 : tie.Need-enum-told-2
 enum-told-2 c = search needs
 
--- src/lib.rt:51:9
 returns : tie.Need-returns
-returns c = ?
+returns c =
+    let s = c .before .before .before .before .before .before .before .before in
+    let n = c .before .before in
+    let b = n .before in
+    numbers-fail (s .args .store .now) (s .args .c) _ _ _ _ (b .before .before .before .c .ensures) (b .before .before .p .ensures) (b .before .d .ensures) (b .b .ensures) (sym (n .new .ensures) ∙ c .enum-told2 .given .1)
 
--- src/lib.rt:53:9
 hops-requires : tie.Need-hops-requires
 hops-requires c κs = search needs
 
--- src/lib.rt:54:33
 new-requires-2 : tie.Need-new-requires-2
 new-requires-2 c κs = search needs
 
 enum-told-3 : tie.Need-enum-told-3
 enum-told-3 c = search needs
 
--- src/lib.rt:55:9
 enum-told-4 : tie.Need-enum-told-4
 enum-told-4 c = search needs
 
--- src/lib.rt:55:9
 returns-2 : tie.Need-returns-2
-returns-2 c = ?
+returns-2 c =
+    let s = c .before .before .before .before .before .before .before .before .before .before .before .before in
+    let m = c .before .before in
+    let h = m .before in
+    let t = h .before in
+    let n = t .before .before in
+    let b = n .before in
+    let one = numbers-pass (s .args .store .now) (s .args .c) _ _ _ _ (b .before .before .before .c .ensures) (b .before .before .p .ensures) (b .before .d .ensures) (b .b .ensures) (sym (n .new .ensures) ∙ t .enum-told .given .1) in
+    hops-fail (s .args .store .now) (s .args .c) _ (h .hops .ensures) one (sym (m .new2 .ensures) ∙ c .enum-told4 .given .1)
 
--- src/lib.rt:57:5
 route-passes-requires : tie.Need-route-passes-requires
-route-passes-requires c κs = ?
+route-passes-requires c κs =
+    let s = c .before .before .before .before .before .before .before .before .before .before .before .before in
+    let m = c .before .before in
+    let h = m .before in
+    (s .pre .0, (s .pre .1 .0, (s .pre .1 .1, hops-most _ (sym (m .new2 .ensures) ∙ c .enum-told3 .given .1))))
 
--- src/lib.rt:38:1
 returns-3 : tie.Need-returns-3
-returns-3 c = ?
+returns-3 c =
+    let s = c .before .before .before .before .before .before .before .before .before .before .before .before .before in
+    let k = c .before in
+    let m = k .before .before in
+    let h = m .before in
+    let t = h .before in
+    let n = t .before .before in
+    let b = n .before in
+    let one = numbers-pass (s .args .store .now) (s .args .c) _ _ _ _ (b .before .before .before .c .ensures) (b .before .before .p .ensures) (b .before .d .ensures) (b .b .ensures) (sym (n .new .ensures) ∙ t .enum-told .given .1) in
+    hops-pass (s .args .store .now) (s .args .c) _ (h .hops .ensures) one (sym (m .new2 .ensures) ∙ k .enum-told3 .given .1) _ (c .route-passes .ensures)
 
 pub channel-fits-spec : {M : Type 1} → statement M
 channel-fits-spec =

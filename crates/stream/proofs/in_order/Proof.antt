@@ -1,81 +1,85 @@
+-- `stream::in_order` meets its contract: the messages passed are in order, so those left decide. Assumes nothing.
+use mathlib.Core.Path.{refl, sym, _∙_}
+use native.Mathlib.Omega.{arith}
+use borrow.Author.Tests.{not-true, not-false}
+use borrow.Author.Needs.{needs}
+use Rattle.stream.proofs.Laws.{Ordering, ordering-delivered, ordering-lost, ordering-broken, ordering-more, ordering-end, sent-delivered}
 use Rattle.stream.proofs.in_order.Statement.{statement}
 use Rattle.stream.proofs.in_order.Tie as tie
-use Rattle.stream.proofs.in_order.Reads as reads
-use Rattle.stream.proofs.in_order.Lts as lts
-use Rattle.room.proofs.channel.end.Reads as end-reads
-use Rattle.room.proofs.channel.hops.Reads as hops-reads
-use Rattle.room.proofs.channel.sent.Reads as sent-reads
-use Rattle.stream.proofs.follows.Reads as follows-reads
 
 abbrev Inv-loop : tie.InvT-loop
-Inv-loop store c last sent n₀ left₀ n left = ?
+Inv-loop store c last sent n₀ left₀ n left = Ordering store c last sent n left
 
 abbrev μ-loop : tie.MeasureT-loop
-μ-loop store c last sent n₀ left₀ n left = ?
+μ-loop store c last sent n₀ left₀ n left = left
 
--- src/lib.rt:132:40
 hops-requires : tie.Need-hops-requires Inv-loop μ-loop
-hops-requires c κs = ?
+hops-requires c κs = search needs
 
--- src/lib.rt:132:40
 sub-sent : tie.Need-sub-sent Inv-loop μ-loop
-sub-sent c = ?
+sub-sent c = search needs
 
--- src/lib.rt:132:9
 sent-requires : tie.Need-sent-requires Inv-loop μ-loop
-sent-requires c κs = ?
+sent-requires c κs = search needs
 
--- src/lib.rt:135:5
 loop-holds : tie.Need-loop-holds Inv-loop μ-loop
-loop-holds c = ?
+loop-holds c =
+    let s = c .before .before .before in
+    record { sent-is = sent-delivered (s .args .store .now) (s .args .c) _ _ (c .before .hops .ensures) (c .sent .ensures); small = s .pre .1 .1 .0; few = omega arith; same = refl }
 
--- src/lib.rt:136:12
 end-requires : tie.Need-end-requires Inv-loop μ-loop
-end-requires c κs = ?
+end-requires c κs = search needs
 
--- src/lib.rt:137:13
 returns : tie.Need-returns Inv-loop μ-loop
-returns c = ?
+returns c =
+    let e = c .before in
+    ordering-delivered _ _ _ _ _ _ _ (e .before .before .loop .inv) (e .end .ensures) (c .if1 .taken)
 
--- src/lib.rt:140:13
 returns-2 : tie.Need-returns-2 Inv-loop μ-loop
-returns-2 c = ?
+returns-2 c =
+    let i = c .before in
+    let e = i .before in
+    ordering-lost _ _ _ _ _ _ _ (e .before .before .loop .inv) (e .end .ensures) (e .before .loop-test .taken) (c .if2 .taken) (i .if1 .left)
 
--- src/lib.rt:142:31
 sub-follows : tie.Need-sub-follows Inv-loop μ-loop
-sub-follows c = ?
+sub-follows c = omega (arith, c .if2 .left)
 
--- src/lib.rt:142:13
 follows-requires : tie.Need-follows-requires Inv-loop μ-loop
-follows-requires c κs = ?
+follows-requires c κs =
+    let s = c .before .before .before .before .before .before .before .before in
+    let o = c .before .before .before .before .loop .inv in
+    (s .pre .0, (s .pre .1 .0, (omega (arith, c .if2 .left, o .small), o .sent-is)))
 
--- src/lib.rt:143:13
 returns-3 : tie.Need-returns-3 Inv-loop μ-loop
-returns-3 c = ?
+returns-3 c =
+    let z = c .before .before in
+    let i = z .before in
+    let e = i .before in
+    ordering-broken _ _ _ _ _ _ _ (e .before .before .loop .inv) (e .end .ensures) (e .before .loop-test .taken) (z .if2 .left) (i .if1 .left) (sym (c .before .follows .ensures) ∙ not-true _ (c .if3 .taken))
 
--- src/lib.rt:145:9
 sub-n : tie.Need-sub-n Inv-loop μ-loop
-sub-n c = ?
+sub-n c = omega (arith, c .before .before .if2 .left)
 
--- src/lib.rt:146:9
 sub-left : tie.Need-sub-left Inv-loop μ-loop
-sub-left c = ?
+sub-left c = omega arith
 
--- src/lib.rt:135:5
 loop-less : tie.Need-loop-less Inv-loop μ-loop
-loop-less c = ?
+loop-less c = omega arith
 
--- src/lib.rt:135:5
 loop-again : tie.Need-loop-again Inv-loop μ-loop
-loop-again c = ?
+loop-again c =
+    let z = c .before .before in
+    let i = z .before in
+    let e = i .before in
+    ordering-more _ _ _ _ _ _ _ (e .before .before .loop .inv) (e .end .ensures) (e .before .loop-test .taken) (z .if2 .left) (i .if1 .left) (sym (c .before .follows .ensures) ∙ not-false _ (c .if3 .left))
 
--- src/lib.rt:148:5
 end-requires-2 : tie.Need-end-requires-2 Inv-loop μ-loop
-end-requires-2 c κs = ?
+end-requires-2 c κs = search needs
 
--- src/lib.rt:124:1
 returns-4 : tie.Need-returns-4 Inv-loop μ-loop
-returns-4 c = ?
+returns-4 c =
+    let t = c .before in
+    ordering-end _ _ _ _ _ _ _ (t .before .loop .inv) (c .end2 .ensures) (t .loop-test .left)
 
 pub in-order-spec : {M : Type 1} → statement M
 in-order-spec =

@@ -1,70 +1,78 @@
+-- `stream::places_fit` meets its contract: the places passed fit, and `entered` is what has come to the next one. Assumes nothing.
+use Prim.Native.Nat.{_-_}
+use native.Mathlib.Omega.{arith}
+use borrow.Author.Needs.{needs}
+use Rattle.stream.proofs.Laws.{Placing, placing-none, placing-low, placing-high, placing-over, placing-more, placing-done}
 use Rattle.stream.proofs.places_fit.Statement.{statement}
 use Rattle.stream.proofs.places_fit.Tie as tie
-use Rattle.stream.proofs.places_fit.Reads as reads
-use Rattle.stream.proofs.places_fit.Lts as lts
-use Rattle.room.proofs.channel.delay.Reads as delay-reads
-use Rattle.room.proofs.channel.hops.Reads as hops-reads
-use Rattle.room.proofs.channel.p.Reads as p-reads
-use Rattle.room.proofs.channel.sent.Reads as sent-reads
-use Rattle.route.proofs.entered.Reads as entered-reads
 
 abbrev Inv-loop : tie.InvT-loop
-Inv-loop store c hops p entered₀ j₀ entered j = ?
+Inv-loop store c hops p entered₀ j₀ entered j = Placing store c hops p entered j
 
 abbrev μ-loop : tie.MeasureT-loop
-μ-loop store c hops p entered₀ j₀ entered j = ?
+μ-loop store c hops p entered₀ j₀ entered j = hops - j
 
--- src/lib.rt:67:9
 hops-requires : tie.Need-hops-requires Inv-loop μ-loop
-hops-requires c κs = ?
+hops-requires c κs = search needs
 
--- src/lib.rt:68:9
 p-requires : tie.Need-p-requires Inv-loop μ-loop
-p-requires c κs = ?
+p-requires c κs = search needs
 
--- src/lib.rt:69:9
 entered-requires : tie.Need-entered-requires Inv-loop μ-loop
-entered-requires c κs = ?
+entered-requires c κs = search needs
 
--- src/lib.rt:71:5
 loop-holds : tie.Need-loop-holds Inv-loop μ-loop
-loop-holds c = ?
+loop-holds c = placing-none _ _ _ _ _ (c .before .before .hops .ensures) (c .before .p .ensures) (c .entered .ensures)
 
--- src/lib.rt:72:13
 delay-requires : tie.Need-delay-requires Inv-loop μ-loop
-delay-requires c κs = ?
+delay-requires c κs =
+    let s = c .before .before .before .before .before .before in
+    (s .pre .0, (s .pre .1 .0, omega (arith, c .before .loop .inv .hops-are)))
 
--- src/lib.rt:74:13
 returns : tie.Need-returns Inv-loop μ-loop
-returns c = ?
+returns c =
+    let d = c .before in
+    let t = d .before in
+    placing-low _ _ _ _ _ _ (t .before .loop .inv) (t .loop-test .taken) _ (d .delay .ensures) (c .if1 .taken)
 
--- src/lib.rt:77:13
 returns-2 : tie.Need-returns-2 Inv-loop μ-loop
-returns-2 c = ?
+returns-2 c =
+    let i = c .before in
+    let d = i .before in
+    let t = d .before in
+    placing-high _ _ _ _ _ _ (t .before .loop .inv) (t .loop-test .taken) _ (d .delay .ensures) (i .if1 .left) (c .if2 .taken)
 
--- src/lib.rt:79:13
 sent-requires : tie.Need-sent-requires Inv-loop μ-loop
-sent-requires c κs = ?
+sent-requires c κs =
+    let s = c .before .before .before .before .before .before .before .before .before in
+    (s .pre .0, (s .pre .1 .0, omega (arith, c .before .before .before .before .loop .inv .hops-are)))
 
--- src/lib.rt:81:13
 returns-3 : tie.Need-returns-3 Inv-loop μ-loop
-returns-3 c = ?
+returns-3 c =
+    let s = c .before in
+    let k = s .before in
+    let i = k .before in
+    let d = i .before in
+    let t = d .before in
+    placing-over _ _ _ _ _ _ (t .before .loop .inv) (t .loop-test .taken) _ _ (d .delay .ensures) (i .if1 .left) (k .if2 .left) (s .sent .ensures) (c .if3 .taken)
 
--- src/lib.rt:84:9
 add-j : tie.Need-add-j Inv-loop μ-loop
-add-j c = ?
+add-j c = omega arith
 
--- src/lib.rt:71:5
 loop-less : tie.Need-loop-less Inv-loop μ-loop
-loop-less c = ?
+loop-less c = omega arith
 
--- src/lib.rt:71:5
 loop-again : tie.Need-loop-again Inv-loop μ-loop
-loop-again c = ?
+loop-again c =
+    let s = c .before in
+    let k = s .before in
+    let i = k .before in
+    let d = i .before in
+    let t = d .before in
+    placing-more _ _ _ _ _ _ (t .before .loop .inv) (t .loop-test .taken) _ _ (d .delay .ensures) (i .if1 .left) (k .if2 .left) (s .sent .ensures) (c .if3 .left)
 
--- src/lib.rt:61:1
 returns-4 : tie.Need-returns-4 Inv-loop μ-loop
-returns-4 c = ?
+returns-4 c = placing-done _ _ _ _ _ _ (c .before .loop .inv) (c .loop-test .left)
 
 pub places-fit-spec : {M : Type 1} → statement M
 places-fit-spec =

@@ -1,40 +1,46 @@
+-- `stream::route_passes` meets its contract: check by check. Assumes nothing.
+use native.Mathlib.Omega.{arith}
+use Rattle.stream.proofs.Laws.{route-known, route-unknown, route-repeats, route-joins}
 use borrow.Author.Needs.{needs}
 use Rattle.stream.proofs.route_passes.Statement.{statement}
 use Rattle.stream.proofs.route_passes.Tie as tie
-use Rattle.stream.proofs.route_passes.Reads as reads
-use Rattle.stream.proofs.route_passes.Lts as lts
-use Rattle.room.proofs.channel.route_start.Reads as route-start-reads
-use Rattle.route.proofs.parted_link.Reads as parted-link-reads
-use Rattle.route.proofs.repeated_link.Reads as repeated-link-reads
-use Rattle.route.proofs.unknown_link.Reads as unknown-link-reads
 
--- src/lib.rt:27:9
 route-start-requires : tie.Need-route-start-requires
 route-start-requires c κs = search needs
 
--- src/lib.rt:28:8
 unknown-link-requires : tie.Need-unknown-link-requires
 unknown-link-requires c κs = search needs
 
--- src/lib.rt:29:9
 returns : tie.Need-returns
-returns c = ?
+returns c =
+    let s = c .before .before .before .before in
+    let u = c .before in
+    route-unknown (s .args .store .now) (s .args .c) _ _ (u .before .route-start .ensures) _ (u .unknown-link .ensures) (c .if1 .taken)
 
--- src/lib.rt:31:8
 repeated-link-requires : tie.Need-repeated-link-requires
 repeated-link-requires c κs = search needs
 
--- src/lib.rt:32:9
 returns-2 : tie.Need-returns-2
-returns-2 c = ?
+returns-2 c =
+    let s = c .before .before .before .before .before .before in
+    let v = c .before in
+    let i = v .before in
+    let u = i .before in
+    route-repeats (s .args .store .now) (s .args .c) _ _ (u .before .route-start .ensures) _ _ (u .unknown-link .ensures) (i .if1 .left) (v .repeated-link .ensures) (c .if2 .taken)
 
--- src/lib.rt:34:5
 parted-link-requires : tie.Need-parted-link-requires
-parted-link-requires c κs = ?
+parted-link-requires c κs =
+    let s = c .before .before .before .before .before .before in
+    let u = c .before .before .before in
+    (s .pre .0, (omega arith, (s .pre .1 .0, route-known (s .args .store .now) (s .args .c) _ _ (u .before .route-start .ensures) _ (u .unknown-link .ensures) (c .before .before .if1 .left))))
 
--- src/lib.rt:20:1
 returns-3 : tie.Need-returns-3
-returns-3 c = ?
+returns-3 c =
+    let s = c .before .before .before .before .before .before .before in
+    let v = c .before .before in
+    let i = v .before in
+    let u = i .before in
+    route-joins (s .args .store .now) (s .args .c) _ _ (u .before .route-start .ensures) _ _ _ (u .unknown-link .ensures) (i .if1 .left) (v .repeated-link .ensures) (c .before .if2 .left) (c .parted-link .ensures)
 
 pub route-passes-spec : {M : Type 1} → statement M
 route-passes-spec =

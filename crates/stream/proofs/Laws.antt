@@ -1,0 +1,269 @@
+-- The loops over a channel's places and messages, and the tests as the code makes them. Assumes nothing.
+use Prim.Native.Nat.{ℕ, zero, suc, _+_, _-_, _*_, _≤_, _<_}
+use mathlib.Core.Path.{_≡_, refl, sym, ap, _∙_}
+use mathlib.Core.Bool.{Bool, true, false, _&&_, _||_, and-eq-true-iff}
+use native.Mathlib.Numerals.{add-one}
+use native.Mathlib.Omega.{arith}
+use native.Mathlib.Decide.{decLe}
+use native.Mathlib.Nat.{mul-le-mul}
+use mir.Syntax.{w64}
+use mir.Val.{Fits}
+use lib.Dec.{leb, ltb}
+use borrow.Author.Tests.{leb-true, le-leb, lt-leb, lt-ltb, le-ltb}
+use Rattle.kinds.specs.Ranges.{within, mostHops, mostC, mostNumber, inRangeHops, isNumber}
+use Rattle.kinds.specs.Checks.{channelPasses, newChannel, newRoute}
+use Rattle.kinds.specs.declared.Channel.{Channel}
+use Rattle.kinds.specs.declared.Route.{Route}
+use Rattle.kinds.specs.declared.CheckedChannel.the-variants as channel
+use Rattle.kinds.specs.declared.CheckedRoute.the-variants as route
+use Rattle.kinds.proofs.Laws.{within-true, channel-bounds, good-channel, refused-channel, good-route, refused-route}
+use Rattle.room.specs.Layout.{Store, ring, routeStart, routeOf, cOf, pOf, dOf, bOf, hopsOf, messagesOf, delayOf, sentOf, timeOf, endOf}
+use Rattle.room.specs.Folds.{every, firstNot}
+use Rattle.room.specs.Route.{from, exists, isNew, joins, routePasses}
+use Rattle.room.specs.Amounts.{acceptedOf, deliveredOf, enteredOf}
+use Rattle.room.specs.Sound.{channelFits, placeFits, delivered, follows, inOrder, messagesFit}
+use Rattle.room.proofs.Laws.Folds.{every-false, Passing, passing-none, passing-more, passing-done, first-less, first-all, first-test}
+use Rattle.room.proofs.Laws.Amounts.{entered-first, entered-later}
+
+-- Checks 3, 4 and 5 of the route that starts at place `at`.
+module _ (w : Store) (c n at : ℕ) (start : at ≡ routeStart c) where
+  pub route-known : (u : ℕ) → u ≡ firstNot (exists w (from w at)) n → n ≤ u → every (exists w (from w at)) n ≡ true
+  route-known u e h = first-all (exists w (from w at)) n u e h
+
+  pub route-unknown : (u : ℕ) → u ≡ firstNot (exists w (from w at)) n → u < n → false ≡ routePasses w (routeOf w c) n
+  route-unknown u e h = rw (rw start at (first-less (exists w (from w at)) n u e h))
+
+  pub route-repeats : (u v : ℕ) → u ≡ firstNot (exists w (from w at)) n → n ≤ u → v ≡ firstNot (isNew (from w at)) n → v < n
+      → false ≡ routePasses w (routeOf w c) n
+  route-repeats u v e h f l =
+      rw (rw start at (first-all (exists w (from w at)) n u e h), rw start at (first-less (isNew (from w at)) n v f l))
+
+  pub route-joins : (u v x : ℕ) → u ≡ firstNot (exists w (from w at)) n → n ≤ u → v ≡ firstNot (isNew (from w at)) n → n ≤ v
+      → x ≡ firstNot (joins w (from w at)) n → leb n x ≡ routePasses w (routeOf w c) n
+  route-joins u v x e h f l g =
+      rw (rw start at (first-all (exists w (from w at)) n u e h), rw start at (first-all (isNew (from w at)) n v f l)) (first-test (joins w (routeOf w c)) n x (rw start at g))
+
+-- A loop over the places of the route: `entered` is what has come to place j.
+pub record Placing (w : Store) (c hops p entered j : ℕ) : Type 0 where
+  pub hops-are : hops ≡ hopsOf w c
+  pub p-is : p ≡ pOf w c
+  pub come : entered ≡ enteredOf w c j
+  pub passing : Passing (placeFits w c) hops j
+
+module _ (w : Store) (c hops p : ℕ) where
+  pub placing-none : (entered : ℕ) → hops ≡ hopsOf w c → p ≡ pOf w c → entered ≡ enteredOf w c 0 → Placing w c hops p entered 0
+  placing-none entered h q e = record { hops-are = h; p-is = q; come = e; passing = passing-none _ _ }
+
+  module _ (entered j : ℕ) (t : Placing w c hops p entered j) (inside : j < hops) where
+    bad-place : placeFits w c j ≡ false → false ≡ every (placeFits w c) (hopsOf w c)
+    bad-place e = rw (sym (t .hops-are)) (sym (every-false (placeFits w c) hops j inside e))
+
+    pub placing-low : (d : ℕ) → d ≡ delayOf w c j → d < 1 → false ≡ every (placeFits w c) (hopsOf w c)
+    placing-low d e h = bad-place (rw (lt-leb 1 (delayOf w c j) (rw e at h)))
+
+    pub placing-high : (d : ℕ) → d ≡ delayOf w c j → 1 ≤ d → p < d → false ≡ every (placeFits w c) (hopsOf w c)
+    placing-high d e l h =
+        let m : pOf w c < delayOf w c j = rw (t .p-is, e) at h in
+        bad-place (rw (le-leb 1 (delayOf w c j) (rw e at l), lt-leb (delayOf w c j) (pOf w c) m))
+
+    fits : (d : ℕ) → d ≡ delayOf w c j → 1 ≤ d → d ≤ p → within 1 (pOf w c) (delayOf w c j) ≡ true
+    fits d e l h =
+        let m : delayOf w c j ≤ pOf w c = rw (e, t .p-is) at h in
+        rw (le-leb 1 (delayOf w c j) (rw e at l), le-leb (delayOf w c j) (pOf w c) m)
+
+    pub placing-over : (d s : ℕ) → d ≡ delayOf w c j → 1 ≤ d → d ≤ p → s ≡ sentOf w c j → entered < s
+        → false ≡ every (placeFits w c) (hopsOf w c)
+    placing-over d s e l h f o =
+        let m : enteredOf w c j < sentOf w c j = rw (t .come, f) at o in
+        bad-place (rw (fits d e l h, lt-leb (sentOf w c j) (enteredOf w c j) m))
+
+    pub placing-more : (d s : ℕ) → d ≡ delayOf w c j → 1 ≤ d → d ≤ p → s ≡ sentOf w c j → s ≤ entered
+        → Placing w c hops p s (j + 1)
+    placing-more d s e l h f o =
+        let m : sentOf w c j ≤ enteredOf w c j = rw (f, t .come) at o in
+        let b : j + 1 - 1 ≡ j = omega arith in
+        record {
+          hops-are = t .hops-are;
+          p-is = t .p-is;
+          come = f ∙ sym (entered-later w c (j + 1) (omega arith) ∙ ap (sentOf w c) b);
+          passing = passing-more _ _ j (t .passing) inside (rw (fits d e l h) (le-leb (sentOf w c j) (enteredOf w c j) m));
+        }
+
+  pub placing-done : (entered j : ℕ) → Placing w c hops p entered j → hops ≤ j → true ≡ every (placeFits w c) (hopsOf w c)
+  placing-done entered j t h = rw (sym (t .hops-are)) (sym (passing-done _ _ j (t .passing) h))
+
+-- Messages n and n + 1 are p apart, without a sum that could wrap.
+module _ (t p l : ℕ) where
+  pub apart : p ≤ l → leb t (l - p) ≡ leb (t + p) l
+  apart h = go (decLe t (l - p))
+    where
+      go : Dec (t ≤ l - p) → leb t (l - p) ≡ leb (t + p) l
+      go (yes a) = rw (le-leb t (l - p) a) (sym (le-leb (t + p) l (omega arith)))
+      go (no a) =
+          let b : l - p < t = omega arith in
+          rw (lt-leb t (l - p) b) (sym (lt-leb (t + p) l (omega arith)))
+
+  pub not-apart : l < p → leb p l ≡ leb (t + p) l
+  not-apart h = rw (lt-leb p l h) (sym (lt-leb (t + p) l (omega arith)))
+
+-- Message n + 1 after message n: `before` and `end` are their ends.
+module _ (w : Store) (c n before end : ℕ) (b : before ≡ endOf w c n) (e : end ≡ endOf w c (n + 1)) where
+  pub follows-empty : end ≤ before → false ≡ follows w c n
+  follows-empty h =
+      let m : endOf w c (n + 1) ≤ endOf w c n = rw (e, b) at h in
+      rw (le-ltb (endOf w c n) (endOf w c (n + 1)) m)
+
+  sizes : (k : ℕ) → k ≡ cOf w c → before < end → end - before ≤ k
+      → (ltb (endOf w c n) (endOf w c (n + 1)) && leb (endOf w c (n + 1)) (endOf w c n + cOf w c)) ≡ true
+  sizes k q h l =
+      let m : endOf w c n < endOf w c (n + 1) = rw (b, e) at h in
+      let o : endOf w c (n + 1) ≤ endOf w c n + cOf w c = omega (arith, (rw (b, e, q) at l)) in
+      rw (lt-ltb (endOf w c n) (endOf w c (n + 1)) m, le-leb (endOf w c (n + 1)) (endOf w c n + cOf w c) o)
+
+  pub follows-long : (k : ℕ) → k ≡ cOf w c → before < end → k < end - before → false ≡ follows w c n
+  follows-long k q h l =
+      let m : endOf w c n < endOf w c (n + 1) = rw (b, e) at h in
+      let o : endOf w c n + cOf w c < endOf w c (n + 1) = omega (arith, (rw (b, e, q) at l)) in
+      rw (lt-ltb (endOf w c n) (endOf w c (n + 1)) m, lt-leb (endOf w c (n + 1)) (endOf w c n + cOf w c) o)
+
+  module _ (k sent : ℕ) (q : k ≡ cOf w c) (d : sent ≡ deliveredOf w c) (h : before < end) (l : end - before ≤ k) where
+    pub follows-delivered : before ≤ sent → true ≡ follows w c n
+    follows-delivered a =
+        let m : endOf w c n ≤ deliveredOf w c = rw (b, d) at a in
+        rw (sizes k q h l, le-leb (endOf w c n) (deliveredOf w c) m)
+
+    pub follows-apart : sent < before → (r : Bool) → r ≡ leb (timeOf w c n + pOf w c) (timeOf w c (n + 1)) → r ≡ follows w c n
+    follows-apart a r s =
+        let m : deliveredOf w c < endOf w c n = rw (d, b) at a in
+        rw (sizes k q h l, lt-leb (endOf w c n) (deliveredOf w c) m) s
+
+-- One step back: message n, with `left` more that may be looked at.
+module _ (w : Store) (c : ℕ) where
+  order-delivered : (n left : ℕ) → delivered w c n ≡ true → inOrder w c n left ≡ true
+  unfolding inOrder
+  order-delivered n zero e = e
+  order-delivered zero (suc left) e = e
+  order-delivered (suc n) (suc left) e = rw e
+
+  order-lost : (n left : ℕ) → 0 < left → n ≡ 0 → delivered w c n ≡ false → inOrder w c n left ≡ false
+  unfolding inOrder
+  order-lost n zero h z e = absurd (omega arith)
+  order-lost zero (suc left) h z e = e
+  order-lost (suc n) (suc left) h z e = absurd (omega arith)
+
+  order-step : (n left : ℕ) → 0 < left → (n ≡ 0 → ⊥) → delivered w c n ≡ false
+      → inOrder w c n left ≡ (follows w c (n - 1) && inOrder w c (n - 1) (left - 1))
+  unfolding inOrder
+  order-step n zero h z e = absurd (omega arith)
+  order-step zero (suc left) h z e = absurd (z refl)
+  order-step (suc n) (suc left) h z e =
+      let a : suc n - 1 ≡ n = omega arith in
+      let b : suc left - 1 ≡ left = omega arith in
+      simp (a, b, e)
+
+  order-end : (n left : ℕ) → left ≤ 0 → inOrder w c n left ≡ delivered w c n
+  unfolding inOrder
+  order-end n zero h = refl
+  order-end n (suc left) h = absurd (omega arith)
+
+-- A loop back over the messages: what is left decides.
+pub record Ordering (w : Store) (c last sent n left : ℕ) : Type 0 where
+  pub sent-is : sent ≡ deliveredOf w c
+  pub small : n ≤ mostNumber
+  pub few : left ≤ ring - 1
+  pub same : inOrder w c last (ring - 1) ≡ inOrder w c n left
+
+module _ (w : Store) (c last sent n left end : ℕ) (o : Ordering w c last sent n left) (e : end ≡ endOf w c n) where
+  is-delivered : end ≤ sent → delivered w c n ≡ true
+  is-delivered h =
+      let m : endOf w c n ≤ deliveredOf w c = rw (e, o .sent-is) at h in
+      le-leb (endOf w c n) (deliveredOf w c) m
+
+  not-delivered : sent < end → delivered w c n ≡ false
+  not-delivered h =
+      let m : deliveredOf w c < endOf w c n = rw (o .sent-is, e) at h in
+      lt-leb (endOf w c n) (deliveredOf w c) m
+
+  pub ordering-delivered : end ≤ sent → true ≡ inOrder w c last (ring - 1)
+  ordering-delivered h = sym (o .same ∙ order-delivered w c n left (is-delivered h))
+
+  pub ordering-lost : 0 < left → n ≡ 0 → sent < end → false ≡ inOrder w c last (ring - 1)
+  ordering-lost h z l = sym (o .same ∙ order-lost w c n left h z (not-delivered l))
+
+  module _ (h : 0 < left) (z : n ≡ 0 → ⊥) (l : sent < end) where
+    pub ordering-broken : follows w c (n - 1) ≡ false → false ≡ inOrder w c last (ring - 1)
+    ordering-broken f = sym (o .same ∙ (order-step w c n left h z (not-delivered l) ∙ rw f))
+
+    pub ordering-more : follows w c (n - 1) ≡ true → Ordering w c last sent (n - 1) (left - 1)
+    ordering-more f =
+        record {
+          sent-is = o .sent-is;
+          small = omega (arith, o .small);
+          few = omega (arith, o .few);
+          same = o .same ∙ (order-step w c n left h z (not-delivered l) ∙ rw f);
+        }
+
+  pub ordering-end : left ≤ 0 → leb end sent ≡ inOrder w c last (ring - 1)
+  ordering-end h = rw (e, o .sent-is) (sym (o .same ∙ order-end w c n left h))
+
+pub sent-delivered : (w : Store) (c h s : ℕ) → h ≡ hopsOf w c → s ≡ sentOf w c (h - 1) → s ≡ deliveredOf w c
+sent-delivered w c h s e f = rw (f, e)
+
+-- Checks 1 and 2, by what the constructors answer to the numbers as they were read.
+module _ (w : Store) (c k p d b : ℕ) (ek : k ≡ cOf w c) (ep : p ≡ pOf w c) (ed : d ≡ dOf w c) (eb : b ≡ bOf w c) where
+  pub numbers-pass : {x : Channel} → newChannel k p d b ≡ channel.Good x → channelPasses (cOf w c) (pOf w c) (dOf w c) (bOf w c) ≡ true
+  numbers-pass e = good-channel (cOf w c) (pOf w c) (dOf w c) (bOf w c) (rw (ek, ep, ed, eb) at e)
+
+  pub numbers-fail : {n : ℕ} → newChannel k p d b ≡ channel.Refused n → false ≡ channelFits w c
+  numbers-fail e = rw (refused-channel (cOf w c) (pOf w c) (dOf w c) (bOf w c) (rw (ek, ep, ed, eb) at e))
+
+module _ (w : Store) (c h : ℕ) (eh : h ≡ hopsOf w c) (one : channelPasses (cOf w c) (pOf w c) (dOf w c) (bOf w c) ≡ true) where
+  pub hops-fail : {n : ℕ} → newRoute h ≡ route.Refused n → false ≡ channelFits w c
+  hops-fail e = rw (one, refused-route (hopsOf w c) (rw eh at e))
+
+  pub hops-pass : {x : Route} → newRoute h ≡ route.Good x → (r : Bool) → r ≡ routePasses w (routeOf w c) h → r ≡ channelFits w c
+  hops-pass e r f = rw (one, good-route (hopsOf w c) (rw eh at e)) (rw eh at f)
+
+pub hops-most : (h : ℕ) {x : Route} → newRoute h ≡ route.Good x → h ≤ mostHops
+hops-most h e = within-true 1 mostHops h (good-route h e) .1
+
+-- What checks 1 and 2 give to the parts that come after them.
+pub record Sized (w : Store) (c : ℕ) : Type 0 where
+  pub packets : cOf w c ≤ mostC
+  pub least : 1 ≤ hopsOf w c
+  pub most : hopsOf w c ≤ mostHops
+
+pub sized : (w : Store) (c : ℕ) → channelFits w c ≡ true → Sized w c
+sized w c e =
+    let one = and-eq-true-iff (channelPasses (cOf w c) (pOf w c) (dOf w c) (bOf w c)) _ .0 e in
+    let two = and-eq-true-iff (inRangeHops (hopsOf w c)) _ .0 (one .1) in
+    let h = within-true 1 mostHops (hopsOf w c) (two .0) in
+    record { packets = channel-bounds (cOf w c) (pOf w c) (dOf w c) (bOf w c) (one .0) .c-most; least = h .0; most = h .1 }
+
+-- The numbers of a channel's messages, as they were read: `n` messages, the last at `t` and ending at `e`.
+module _ (w : Store) (c n : ℕ) (en : n ≡ messagesOf w c) where
+  pub too-many : isNumber n ≡ false → false ≡ messagesFit w c
+  too-many h = rw (rw en at h)
+
+  pub few : isNumber n ≡ true → n ≤ mostNumber
+  few h = leb-true n mostNumber h
+
+  pub total-fits : (k : ℕ) → k ≡ cOf w c → cOf w c ≤ mostC → n ≤ mostNumber → Fits w64 (k * n)
+  total-fits k ek h l =
+      let m : k ≤ mostC = rw ek h in
+      record { fits = omega (arith, mul-le-mul m l) }
+
+  module _ (t : ℕ) (et : t ≡ timeOf w c n) (h : isNumber n ≡ true) where
+    pub too-late : isNumber t ≡ false → false ≡ messagesFit w c
+    too-late l = rw (rw en at h, rw (et, en) at l)
+
+    module _ (e k : ℕ) (ee : e ≡ endOf w c n) (ek : k ≡ cOf w c) (l : isNumber t ≡ true) where
+      pub too-much : k * n < e → false ≡ messagesFit w c
+      too-much o =
+          let m : cOf w c * messagesOf w c < acceptedOf w c = rw (ek, ee, en) at o in
+          rw (rw en at h, rw (et, en) at l, lt-leb (acceptedOf w c) (cOf w c * messagesOf w c) m)
+
+      pub ordered : e ≤ k * n → (r : Bool) → r ≡ inOrder w c n (ring - 1) → r ≡ messagesFit w c
+      ordered o r f =
+          let m : acceptedOf w c ≤ cOf w c * messagesOf w c = rw (ek, ee, en) at o in
+          rw (rw en at h, rw (et, en) at l, le-leb (acceptedOf w c) (cOf w c * messagesOf w c) m) (rw en at f)
