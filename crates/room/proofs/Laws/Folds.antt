@@ -25,6 +25,10 @@ or-true : (a b : Bool) → b ≡ true → (a || b) ≡ true
 or-true true b e = refl
 or-true false b e = e
 
+or-false : (a b : Bool) → b ≡ false → (a || b) ≡ true → a ≡ true
+or-false true b e h = refl
+or-false false b e h = cc
+
 module _ (f : ℕ → Bool) where
   pub every-none : every f 0 ≡ true
   unfolding every
@@ -116,6 +120,23 @@ module _ (f : ℕ → Bool) where
   unfolding some
   some-false zero h = refl
   some-false (suc n) h = rw (some-false n (λ i l. h i (omega arith)), h n (omega arith))
+
+-- where it holds
+pub record Holding (f : ℕ → Bool) (n : ℕ) : Type 0 where
+  pub at : ℕ
+  pub inside : at < n
+  pub holds : f at ≡ true
+
+pub some-at : (f : ℕ → Bool) (n : ℕ) → some f n ≡ true → Holding f n
+unfolding some
+some-at f zero e = absurd (let z : _≡_ {A = ℕ} 0 1 = cc in omega arith)
+some-at f (suc n) e = go (f n) refl (λ h. some-at f n h)
+  where
+    go : (t : Bool) → f n ≡ t → (some f n ≡ true → Holding f n) → Holding f (suc n)
+    go true h r = record { at = n; inside = omega arith; holds = h }
+    go false h r =
+        let k = r (or-false (some f n) (f n) h e) in
+        record { at = k .at; inside = omega (arith, k .inside); holds = k .holds }
 
 -- two tests that agree below n
 pub every-same : (f g : ℕ → Bool) (n : ℕ) → ((i : ℕ) → i < n → f i ≡ g i) → every f n ≡ every g n

@@ -18,13 +18,18 @@ use Rattle.room.specs.Layout.{rowChannelOf, rowPlaceOf, cOf, pOf, dOf, b
 use Rattle.room.specs.Folds.{every, some, sumTo}
 use Rattle.room.specs.Route.{exists, differs, isNew, joins, routePasses}
 use Rattle.room.specs.Amounts.{acceptedOf, enteredOf, heldOf, reservedOf}
-use Rattle.room.specs.Sound.{countsFit, linkFits, channelFits, placeFits, messagesFit, channelSound, inOrder}
+use Rattle.room.specs.Sound.{longEnough, countsFit, linkFits, channelFits, placeFits, messagesFit, channelSound, inOrder, rowStands, rowDelayOf, rowFollows}
+use Rattle.room.specs.Sound.{rowReservedOf, rowHolds, rowSound, rowsSound, rowIs, listed, allListed, soundOf}
 use Rattle.room.specs.Ranged.{Ranged, Fit}
-use Rattle.room.proofs.Laws.Folds.{every-at, every-true}
+use Rattle.room.proofs.Laws.Folds.{every-at, every-true, some-at, some-true}
 
 -- Two tests that both hold.
 both : (a b : Bool) → a ≡ true → b ≡ true → (a && b) ≡ true
 both a b e f = and-eq-true-iff a b .1 (e, f)
+
+or-true : (a b : Bool) → b ≡ true → (a || b) ≡ true
+or-true true b e = refl
+or-true false b e = e
 
 -- "its counts lie within the ranges"
 pub record Counts (w : Store) : Type 0 where
@@ -184,3 +189,149 @@ module _ (w : Store) (f : Fit w) where
 
   pub fit-flows : (c : ℕ) → c < channelsOf w → (j : ℕ) → j < hopsOf w c → sentOf w c j ≤ enteredOf w c j
   fit-flows c h = fit-channel c h .flows
+
+-- "each link's rows are .. the channels routed over it": row k is a place of a route, and this link is there
+pub record RowIs (w : Store) (l k : ℕ) : Type 0 where
+  pub channel : rowChannelOf w l k < channelsOf w
+  pub place : rowPlaceOf w l k < hopsOf w (rowChannelOf w l k)
+  pub here : routeOf w (rowChannelOf w l k) (rowPlaceOf w l k) ≡ l
+
+-- "sorted by delay there and then by channel number"
+abbrev pub Before : (d c d′ c′ : ℕ) → Type 0
+Before d c d′ c′ = (d < d′) ⊎ ((d ≡ d′) × (c < c′))
+
+module _ (w : Store) (l : ℕ) where
+  pub row-is : (k : ℕ) → rowStands w l k ≡ true → RowIs w l k
+  row-is k e =
+      let c = and-eq-true-iff (ltb (rowChannelOf w l k) (channelsOf w)) _ .0 e in
+      let j = and-eq-true-iff (ltb (rowPlaceOf w l k) (hopsOf w (rowChannelOf w l k))) _ .0 (c .1) in
+      record { channel = ltb-true _ _ (c .0); place = ltb-true _ _ (j .0); here = eqb-true _ _ (j .1) }
+
+  pub is-row : (k : ℕ) → RowIs w l k → rowStands w l k ≡ true
+  is-row k r = both _ _ (lt-ltb _ _ (r .channel)) (both _ _ (lt-ltb _ _ (r .place)) (eq-eqb _ _ (r .here)))
+
+  pub row-before : (k : ℕ) → rowFollows w l (suc k) ≡ true
+      → Before (rowDelayOf w l k) (rowChannelOf w l k) (rowDelayOf w l (suc k)) (rowChannelOf w l (suc k))
+  unfolding rowFollows
+  row-before k e = go (ltb (rowDelayOf w l k) (rowDelayOf w l (suc k))) refl e
+    where
+      go : (t : Bool) → ltb (rowDelayOf w l k) (rowDelayOf w l (suc k)) ≡ t
+          → (t || (eqb (rowDelayOf w l k) (rowDelayOf w l (suc k)) && ltb (rowChannelOf w l k) (rowChannelOf w l (suc k)))) ≡ true
+          → Before (rowDelayOf w l k) (rowChannelOf w l k) (rowDelayOf w l (suc k)) (rowChannelOf w l (suc k))
+      go true h f = inl (ltb-true _ _ h)
+      go false h f =
+          let b = and-eq-true-iff (eqb (rowDelayOf w l k) (rowDelayOf w l (suc k))) _ .0 f in
+          inr (eqb-true _ _ (b .0), ltb-true _ _ (b .1))
+
+  pub before-row : (k : ℕ) → Before (rowDelayOf w l k) (rowChannelOf w l k) (rowDelayOf w l (suc k)) (rowChannelOf w l (suc k))
+      → rowFollows w l (suc k) ≡ true
+  unfolding rowFollows
+  before-row k (inl h) = rw (lt-ltb _ _ h)
+  before-row k (inr h) = or-true (ltb (rowDelayOf w l k) (rowDelayOf w l (suc k))) _ (both _ _ (eq-eqb _ _ (h .0)) (lt-ltb _ _ (h .1)))
+
+  pub row-first : rowFollows w l 0 ≡ true
+  unfolding rowFollows
+  row-first = refl
+
+-- the rows of a link
+pub record RowsAre (w : Store) (l : ℕ) : Type 0 where
+  pub rows : (k : ℕ) → k < rowsOf w l → RowIs w l k
+  pub sorted : (k : ℕ) → suc k < rowsOf w l
+      → Before (rowDelayOf w l k) (rowChannelOf w l k) (rowDelayOf w l (suc k)) (rowChannelOf w l (suc k))
+  pub holds : (k : ℕ) → k < rowsOf w l → heldOf w (rowChannelOf w l k) (rowPlaceOf w l k) ≤ rowReservedOf w l k
+  pub fits : sumTo (rowReservedOf w l) (rowsOf w l) ≤ bufferOf w l
+
+module _ (w : Store) (l : ℕ) where
+  pub rows-are : rowsSound w l ≡ true → RowsAre w l
+  rows-are e =
+      record {
+        rows = λ k h. row-is w l k (at k h .0);
+        sorted = λ k h. row-before w l k (at (suc k) h .1 .0);
+        holds = λ k h. leb-true _ _ (at k h .1 .1);
+        fits = leb-true _ _ (whole .1);
+      }
+    where
+      whole : (every (rowSound w l) (rowsOf w l) ≡ true) × (leb (sumTo (rowReservedOf w l) (rowsOf w l)) (bufferOf w l) ≡ true)
+      whole = and-eq-true-iff (every (rowSound w l) (rowsOf w l)) _ .0 e
+
+      at : (k : ℕ) → k < rowsOf w l → (rowStands w l k ≡ true) × ((rowFollows w l k ≡ true) × (rowHolds w l k ≡ true))
+      at k h =
+          let s = and-eq-true-iff (rowStands w l k) _ .0 (every-at (rowSound w l) (rowsOf w l) (whole .0) k h) in
+          (s .0, and-eq-true-iff (rowFollows w l k) _ .0 (s .1))
+
+  follows-at : RowsAre w l → (k : ℕ) → k < rowsOf w l → rowFollows w l k ≡ true
+  follows-at r zero h = row-first w l
+  follows-at r (suc k) h = before-row w l k (r .sorted k h)
+
+  pub are-rows : RowsAre w l → rowsSound w l ≡ true
+  are-rows r =
+      both _ _
+      (every-true (rowSound w l) (rowsOf w l) (λ k h. both _ _ (is-row w l k (r .rows k h)) (both _ _ (follows-at r k h) (le-leb _ _ (r .holds k h)))))
+      (le-leb _ _ (r .fits))
+
+-- link l has a row for channel c at place j
+pub record RowFor (w : Store) (c j l : ℕ) : Type 0 where
+  pub at : ℕ
+  pub inside : at < rowsOf w l
+  pub channel : rowChannelOf w l at ≡ c
+  pub place : rowPlaceOf w l at ≡ j
+
+module _ (w : Store) (c j : ℕ) where
+  pub listed-row : listed w c j ≡ true → RowFor w c j (routeOf w c j)
+  listed-row e =
+      let s = some-at (rowIs w c j (routeOf w c j)) (rowsOf w (routeOf w c j)) e in
+      let b = and-eq-true-iff (eqb (rowChannelOf w (routeOf w c j) (s .at)) c) _ .0 (s .holds) in
+      record { at = s .at; inside = s .inside; channel = eqb-true _ _ (b .0); place = eqb-true _ _ (b .1) }
+
+  pub row-listed : RowFor w c j (routeOf w c j) → listed w c j ≡ true
+  row-listed r =
+      some-true (rowIs w c j (routeOf w c j)) (rowsOf w (routeOf w c j)) (r .at) (r .inside)
+      (both _ _ (eq-eqb _ _ (r .channel)) (eq-eqb _ _ (r .place)))
+
+-- A sound store, sentence by sentence.
+pub record Sound (w : Store) : Type 0 where
+  pub long : Long w
+  pub counts : Counts w
+  pub link : (l : ℕ) → l < linksOf w → LinkIs w l
+  pub channel : (c : ℕ) → c < channelsOf w → ChannelIs w c
+  pub rows : (l : ℕ) → l < linksOf w → RowsAre w l
+  pub row : (c j : ℕ) → c < channelsOf w → j < hopsOf w c → RowFor w c j (routeOf w c j)
+
+module _ (w : Store) where
+  pub sound-is : soundOf w ≡ true → Sound w
+  unfolding soundOf
+  sound-is e =
+      let a = and-eq-true-iff (longEnough w) _ .0 e in
+      let b = and-eq-true-iff (countsFit w) _ .0 (a .1) in
+      let c = and-eq-true-iff (every (linkFits w) (linksOf w)) _ .0 (b .1) in
+      let d = and-eq-true-iff (every (channelSound w) (channelsOf w)) _ .0 (c .1) in
+      let f = and-eq-true-iff (every (rowsSound w) (linksOf w)) _ .0 (d .1) in
+      record {
+        long = leb-true storeLength (length w) (a .0);
+        counts = counts-are w (b .0);
+        link = λ l h. link-is w l (every-at (linkFits w) (linksOf w) (c .0) l h);
+        channel = λ i h. channel-is w i (every-at (channelSound w) (channelsOf w) (d .0) i h);
+        rows = λ l h. rows-are w l (every-at (rowsSound w) (linksOf w) (f .0) l h);
+        row = λ i j h k.
+            listed-row w i j (every-at (listed w i) (hopsOf w i) (every-at (allListed w) (channelsOf w) (f .1) i h) j k);
+      }
+
+  pub is-sound : Sound w → soundOf w ≡ true
+  unfolding soundOf
+  is-sound s =
+      both _ _ (le-leb storeLength (length w) (s .long))
+      (both _ _ (are-counts w (s .counts))
+      (both _ _ (every-true (linkFits w) (linksOf w) (λ l h. is-link w l (s .link l h)))
+      (both _ _ (every-true (channelSound w) (channelsOf w) (λ i h. is-channel w i (s .channel i h)))
+      (both _ _ (every-true (rowsSound w) (linksOf w) (λ l h. are-rows w l (s .rows l h)))
+      (every-true (allListed w) (channelsOf w) (λ i h. every-true (listed w i) (hopsOf w i) (λ j k. row-listed w i j (s .row i j h k))))))))
+
+  -- what the first parts of a sound store are to those after them
+  pub sound-fit : soundOf w ≡ true → Fit w
+  unfolding soundOf
+  sound-fit e =
+      let a = and-eq-true-iff (longEnough w) _ .0 e in
+      let b = and-eq-true-iff (countsFit w) _ .0 (a .1) in
+      let c = and-eq-true-iff (every (linkFits w) (linksOf w)) _ .0 (b .1) in
+      let d = and-eq-true-iff (every (channelSound w) (channelsOf w)) _ .0 (c .1) in
+      record { long = leb-true storeLength (length w) (a .0); counts = b .0; links = c .0; channels = d .0 }
