@@ -3,3 +3,4 @@ pub mod Links
 pub mod Written
 pub mod Fresh
 pub mod Answer
+pub mod Sound
