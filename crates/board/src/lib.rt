@@ -2,7 +2,10 @@
 // Every call returns the refusal number of document 01, or 0 where it ran; a refused call writes no output but `place`.
 use response::Answer;
 use response::Reply;
+use setup::SetUp;
 ghost use mathlib.Core.Path.{_≡_};
+ghost use Rattle.room.specs.Sound.{soundOf};
+ghost use Rattle.setup.specs.SetUp.{setUpAnswer, setUpStore, valuesOf as setUpValues};
 ghost use Rattle.response.specs.Alone.{Values, valuesOf, aloneOn};
 
 // The response-time calculation by itself. `table` has C, p and delay of each row in turn, highest priority first.
@@ -39,4 +42,31 @@ pub extern "C" fn byanghosu_response(
             n
         }
     }
+}
+
+// Network set-up in the lent store. `links` has from, to, horizon and buffer of each link in turn.
+#[no_mangle]
+pub extern "C" fn byanghosu_set_up(store: &mut [u64], links: &[u64], place: &mut u64) -> u64
+    ensures { λ r. ⌜ record { number = r; place = now (place .exit) } ≡ setUpValues (setUpAnswer (now (store .entry)) (now (links .entry))) ⌝ }
+    ensures { λ _. ⌜ now (store .exit) ≡ setUpStore (now (store .entry)) (now (links .entry)) ⌝ }
+{
+    let answer = setup::set_up(store, links);
+    match answer {
+        SetUp::Ready => {
+            *place = 0;
+            0
+        }
+        SetUp::Refused(number, link) => {
+            *place = link;
+            number
+        }
+    }
+}
+
+// Whether a store is sound. Every other call asks this by itself.
+#[no_mangle]
+pub extern "C" fn byanghosu_sound(store: &[u64]) -> bool
+    ensures { λ r. ⌜ r ≡ soundOf (now (store .entry)) ⌝ }
+{
+    sound::is_sound(store)
 }
