@@ -1,38 +1,111 @@
 /* The C side of the tests. Reads questions from standard input, one a line, calls the library through its header and
  * writes one line an answer, so that an implementation in another language can be held against it.
  *
- * response OWN LIMIT COUNT NUMBERS..   ->   NUMBER PLACE RESPONSE TRIALS, the last two 111 and 222 before the call */
+ * response OWN LIMIT COUNT NUMBERS..   ->   NUMBER PLACE RESPONSE TRIALS, the last two 111 and 222 before the call
+ *
+ * One store is held from line to line. It is longer than the library's, so that a number written beyond is seen.
+ *
+ * fill VALUE                    every number becomes VALUE
+ * put AT COUNT VALUES..         the numbers from AT on become VALUES
+ * get AT                        ->   the number at AT
+ * sum                           ->   a sum of all the numbers, of which each place counts differently
+ * setup LENGTH COUNT NUMBERS..  ->   NUMBER PLACE of a set-up in the first LENGTH numbers, the place 333 before the call
+ * sound LENGTH                  ->   1 if the first LENGTH numbers are a sound store, 0 if not */
 #include "../include/byanghosu.h"
 #include <inttypes.h>
 #include <stdio.h>
+#include <stdlib.h>
 #include <string.h>
 
-enum { MOST = 4096 };
+enum { WORD = 32, MOST = 4096, HELD = BYANGHOSU_STORE + 464 };
+
+static uint64_t store[HELD];
+
+/* The next word, cut to what `word` holds; of no letters at the end. By hand, as scanf takes several times as long. */
+static void next(char word[WORD]) {
+    static char part[1 << 16];
+    static size_t at, all;
+    for (size_t n = 0;; at++) {
+        if (at == all) all = fread(part, 1, sizeof part, stdin), at = 0;
+        bool space = at == all || part[at] == ' ' || part[at] == '\n';
+        if (!space && n < WORD - 1) word[n++] = part[at];
+        word[n] = 0;
+        if (at == all || (space && n > 0)) return;
+    }
+}
 
 static uint64_t number(void) {
+    char word[WORD];
     uint64_t n = 0;
-    if (scanf("%" SCNu64, &n) != 1) fprintf(stderr, "driver: a number is missing\n");
+    next(word);
+    for (char *digit = word; *digit; digit++) n = 10 * n + (uint64_t)(*digit - '0');
+    if (!*word) fprintf(stderr, "driver: a number is missing\n");
+    return n;
+}
+
+/* A number that is a length, a count or a place. */
+static size_t number_to(size_t most) {
+    uint64_t n = number();
+    if (n > most) {
+        fprintf(stderr, "driver: %" PRIu64 " is above %zu\n", n, most);
+        exit(1);
+    }
     return n;
 }
 
 static void response(void) {
     static uint64_t table[MOST];
-    uint64_t own = number(), limit = number(), count = number();
+    uint64_t own = number(), limit = number();
+    size_t count = number_to(MOST);
     uint64_t found = 111, trials = 222, place = 333;
-    for (uint64_t i = 0; i < count && i < MOST; i++) table[i] = number();
+    for (size_t i = 0; i < count; i++) table[i] = number();
     uint64_t refusal = byanghosu_response(table, count, own, limit, &found, &trials, &place);
     printf("%" PRIu64 " %" PRIu64 " %" PRIu64 " %" PRIu64 "\n", refusal, place, found, trials);
 }
 
+static void fill(void) {
+    uint64_t value = number();
+    for (size_t i = 0; i < HELD; i++) store[i] = value;
+}
+
+static void put(void) {
+    size_t at = number_to(HELD), count = number_to(HELD - at);
+    for (size_t i = 0; i < count; i++) store[at + i] = number();
+}
+
+static void get(void) { printf("%" PRIu64 "\n", store[number_to(HELD - 1)]); }
+
+static void sum(void) {
+    uint64_t all = 0;
+    for (size_t i = 0; i < HELD; i++) all = (all ^ store[i]) * 1099511628211u;
+    printf("%" PRIu64 "\n", all);
+}
+
+static void set_up(void) {
+    static uint64_t links[MOST];
+    size_t length = number_to(HELD), count = number_to(MOST);
+    uint64_t place = 333;
+    for (size_t i = 0; i < count; i++) links[i] = number();
+    uint64_t refusal = byanghosu_set_up(store, length, links, count, &place);
+    printf("%" PRIu64 " %" PRIu64 "\n", refusal, place);
+}
+
+static void sound(void) { printf("%d\n", byanghosu_sound(store, number_to(HELD))); }
+
 int main(void) {
-    char word[32];
-    while (scanf("%31s", word) == 1) {
-        if (strcmp(word, "response") == 0) {
-            response();
-        } else {
+    static const struct { const char *word; void (*answer)(void); } questions[] = {
+        {"response", response}, {"fill", fill}, {"put", put}, {"get", get}, {"sum", sum},
+        {"setup", set_up}, {"sound", sound},
+    };
+    char word[WORD];
+    for (next(word); *word; next(word)) {
+        size_t i = 0, all = sizeof questions / sizeof *questions;
+        while (i < all && strcmp(word, questions[i].word) != 0) i++;
+        if (i == all) {
             fprintf(stderr, "driver: no such question: %s\n", word);
             return 1;
         }
+        questions[i].answer();
     }
     return 0;
 }

@@ -6,8 +6,8 @@
 // The response is found by the sentence that defines it: the least r, from 1 to the limit, whose need is at most r, tried
 // one by one. What a row asks for within r is counted message by message: those of the times 0, p, 2p, .. that are below
 // r. The trials are walked separately, and where they end has to be that same response.
-use std::io::Write;
-use std::process::{exit, Command, Stdio};
+mod driver;
+use driver::{ask, fail, Random};
 
 #[derive(Debug, PartialEq)]
 enum Answer {
@@ -82,11 +82,6 @@ impl Question {
     }
 }
 
-fn fail(message: String) -> ! {
-    eprintln!("response: {message}");
-    exit(1)
-}
-
 fn worked(file: &str) {
     let text = std::fs::read_to_string(file).unwrap_or_else(|e| fail(format!("{file}: {e}")));
     let mut lines = 0;
@@ -110,22 +105,9 @@ fn worked(file: &str) {
     println!("response: {lines} worked answers are right");
 }
 
-struct Random(u64);
-
 impl Random {
-    fn next(&mut self) -> u64 {
-        self.0 ^= self.0 << 13;
-        self.0 ^= self.0 >> 7;
-        self.0 ^= self.0 << 17;
-        self.0
-    }
-
-    fn to(&mut self, most: u64) -> u64 {
-        self.next() % (most + 1)
-    }
-
     // A number in the range, at one of its ends, or just beyond them.
-    fn near(&mut self, least: u64, most: u64) -> u64 {
+    fn near(&self, least: u64, most: u64) -> u64 {
         match self.to(40) {
             0 => least - 1,
             1 => most + 1,
@@ -137,7 +119,7 @@ impl Random {
     }
 
     // A table that loads its link to about `load` parts of a hundred, with spacings up to `most`.
-    fn loaded(&mut self, rows: u64, load: u64, most: u64) -> Vec<u64> {
+    fn loaded(&self, rows: u64, load: u64, most: u64) -> Vec<u64> {
         let mut table = vec![];
         for _ in 0..rows {
             let p = 1 + self.to(most - 1);
@@ -147,7 +129,7 @@ impl Random {
         table
     }
 
-    fn question(&mut self, n: u64) -> Question {
+    fn question(&self, n: u64) -> Question {
         let rows = self.to(32);
         match n % 4 {
             // small numbers: answers differ by one step of one row
@@ -189,7 +171,7 @@ impl Random {
 }
 
 fn random(command: &[String]) {
-    let mut source = Random(0x9e37_79b9_7f4a_7c15);
+    let source = Random::new(0x9e37_79b9_7f4a_7c15);
     let questions: Vec<Question> = (0..40_000).map(|n| source.question(n)).collect();
     let mut text = String::new();
     for q in &questions {
@@ -199,18 +181,7 @@ fn random(command: &[String]) {
         }
         text += "\n";
     }
-    let mut library = Command::new(&command[0])
-        .args(&command[1..])
-        .stdin(Stdio::piped())
-        .stdout(Stdio::piped())
-        .spawn()
-        .unwrap_or_else(|e| fail(format!("{}: {e}", command[0])));
-    let mut stdin = library.stdin.take().unwrap();
-    let feeder = std::thread::spawn(move || stdin.write_all(text.as_bytes()));
-    let output = library.wait_with_output().unwrap();
-    feeder.join().unwrap().unwrap_or_else(|e| fail(format!("the driver stopped reading: {e}")));
-    let told = String::from_utf8(output.stdout).unwrap();
-    let lines: Vec<&str> = told.lines().collect();
+    let lines = ask(command, text);
     if lines.len() != questions.len() {
         fail(format!("{} questions and {} answers", questions.len(), lines.len()));
     }
