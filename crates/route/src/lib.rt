@@ -10,7 +10,7 @@ ghost use lib.ListN.{length};
 ghost use Rattle.kinds.specs.Ranges.{mostLinks, mostChannels, mostHops};
 ghost use Rattle.room.specs.Layout.{Long, linksOf, hopsOf, sentOf};
 ghost use Rattle.room.specs.Folds.{every, firstNot};
-ghost use Rattle.room.specs.Route.{from, exists, isNew, joins};
+ghost use Rattle.room.specs.Route.{from, exists, isNew, joins, Known};
 ghost use Rattle.room.specs.Amounts.{reservedOf, enteredOf, heldOf};
 ghost use Rattle.room.specs.Ranged.{Ranged};
 
@@ -31,31 +31,21 @@ pub fn unknown_link(store: &[u64], numbers: &[u64], at: usize, n: usize) -> usiz
     n
 }
 
-// Whether the link at place `j` stands at no place before.
-fn is_new(numbers: &[u64], at: usize, j: usize) -> bool
-    requires { ⌜ at + j < length (now numbers) ⌝ }
-    ensures { λ r. ⌜ r ≡ isNew (from (now (numbers .entry)) at) j ⌝ }
-{
-    let mut i: usize = 0;
-    while i < j {
-        if numbers[at + i] == numbers[at + j] {
-            return false;
-        }
-        i += 1;
-    }
-    true
-}
-
-// 4: the first place with a link that stands before, or `n`.
+// 4: the first place with a link that stands before, or `n`. The links are known to exist.
 pub fn repeated_link(numbers: &[u64], at: usize, n: usize) -> usize
     requires { ⌜ at + n ≤ length (now numbers) ⌝ }
+    requires { ⌜ Known (from (now numbers) at) n ⌝ }
     ensures { λ r. ⌜ r ≡ firstNot (isNew (from (now (numbers .entry)) at)) n ⌝ }
 {
+    // 1 where a link stands at a place before
+    let mut seen = [0u64; 16];
     let mut j: usize = 0;
     while j < n {
-        if !is_new(numbers, at, j) {
+        let l = numbers[at + j] as usize;
+        if seen[l] == 1 {
             return j;
         }
+        seen[l] = 1;
         j += 1;
     }
     n

@@ -1,5 +1,7 @@
 -- `stream::route_passes` meets its contract: check by check. Assumes nothing.
 use native.Mathlib.Omega.{arith}
+use Rattle.room.specs.Route.{from}
+use Rattle.route.proofs.Laws.{link-bound}
 use Rattle.stream.proofs.Laws.{route-known, route-unknown, route-repeats, route-joins}
 use borrow.Author.Needs.{needs}
 use Rattle.stream.proofs.route_passes.Statement.{statement}
@@ -18,7 +20,13 @@ returns c =
     route-unknown (s .args .store .now) (s .args .c) _ _ (u .before .route-start .ensures) _ (u .unknown-link .ensures) (c .if1 .taken)
 
 repeated-link-requires : tie.Need-repeated-link-requires
-repeated-link-requires c κs = search needs
+repeated-link-requires c κs =
+    let s = c .before .before .before .before in
+    let u = c .before in
+    let w = s .args .store .now in
+    let at = u .before .route-start .result in
+    let known = route-known w (s .args .c) _ _ (u .before .route-start .ensures) _ (u .unknown-link .ensures) (c .if1 .left) in
+    (omega arith, link-bound w (from w at) (s .args .n) (s .pre .1 .0) known)
 
 returns-2 : tie.Need-returns-2
 returns-2 c =
