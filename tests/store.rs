@@ -1,5 +1,6 @@
 // Set-up and sound stores: the library against tests/room.rs.
 //
+//   store damaged FILE       what crates/damaged printed, worked out again
 //   store random COMMAND..   the library, behind COMMAND (tests/driver.c), says of over 100,000 stores whether they are
 //                            sound, and sets up some 3,000 networks, as tests/room.rs does
 //
@@ -10,7 +11,7 @@ mod driver;
 mod room;
 mod rooms;
 use driver::{ask, fail, Random};
-use room::{broken, channel_at, link_at, set_up, Room, Row, END_SLOT, LATEST, RULES, STORE};
+use room::{broken, channel_at, link_at, set_up, Channel, Link, Room, Row, END_SLOT, LATEST, RULES, STORE};
 use rooms::{store_with, Size};
 use std::collections::BTreeMap;
 
@@ -393,10 +394,81 @@ fn random(command: &[String]) {
     println!("store: {sound} stores sound, {unsound} not, each rule broken alone in at least {least}, as the library says");
 }
 
+// The room of document 01's listing, its four offers made, three slots on. Channel 2 has no message yet.
+fn listing() -> Room {
+    let link = |from, rows: [(u64, u64); 2]| Link {
+        from,
+        to: from + 1,
+        horizon: 0,
+        buffer: 64,
+        rows: rows.iter().map(|&(channel, place)| Row { channel, place }).collect(),
+    };
+    let channel = |[c, p, d, b]: [u64; 4], places: &[[u64; 3]], messages: &[(u64, u64)]| {
+        let mut channel = Channel {
+            c,
+            p,
+            d,
+            b,
+            messages: messages.len() as u64,
+            route: places.iter().map(|place| place[0]).collect(),
+            delay: places.iter().map(|place| place[1]).collect(),
+            sent: places.iter().map(|place| place[2]).collect(),
+            time: [0; 24],
+            end: [0; 24],
+        };
+        for (n, &(time, end)) in messages.iter().enumerate() {
+            channel.time[n + 1] = time;
+            channel.end[n + 1] = end;
+        }
+        channel
+    };
+    Room {
+        clock: 3,
+        links: vec![link(0, [(0, 0), (1, 0)]), link(1, [(0, 1), (2, 0)])],
+        channels: vec![
+            channel([2, 10, 8, 2], &[[0, 4, 2], [1, 4, 0]], &[(0, 2), (10, 4)]),
+            channel([3, 12, 6, 1], &[[0, 6, 1]], &[(0, 3)]),
+            channel([1, 5, 4, 1], &[[1, 4, 0]], &[]),
+        ],
+    }
+}
+
+fn damaged(file: &str) {
+    let mut store = vec![0; STORE];
+    listing().write(&mut store);
+    let verdict = |store: &[u64]| if broken(store).0.is_empty() { " +" } else { " -" };
+    let mut right = format!("sound{}\n", verdict(&store));
+    let mut matter = 0;
+    for at in 0..STORE {
+        let value = store[at];
+        let mut line = format!("{at} {value}");
+        for other in [value + 1, value.saturating_sub(1), 0, u64::MAX] {
+            store[at] = other;
+            line += verdict(&store);
+        }
+        store[at] = value;
+        if line.contains('-') {
+            matter += 1;
+            right += &line;
+            right += "\n";
+        }
+    }
+    right += &format!("numbers that matter {matter}\n");
+    let printed = std::fs::read_to_string(file).unwrap_or_else(|e| fail(format!("{file}: {e}")));
+    if let Some((a, b)) = printed.lines().zip(right.lines()).find(|(a, b)| a != b) {
+        fail(format!("{file} has '{a}' where '{b}' is right"));
+    }
+    if printed != right {
+        fail(format!("{file} has {} lines where {} are right", printed.lines().count(), right.lines().count()));
+    }
+    println!("store: {} damages of a sound store, as printed", 4 * STORE);
+}
+
 fn main() {
     let words: Vec<String> = std::env::args().skip(1).collect();
     match words.split_first() {
         Some((mode, command)) if mode == "random" && !command.is_empty() => random(command),
-        _ => fail("use: store random COMMAND..".to_string()),
+        Some((mode, [file])) if mode == "damaged" => damaged(file),
+        _ => fail("use: store damaged FILE, or store random COMMAND..".to_string()),
     }
 }
