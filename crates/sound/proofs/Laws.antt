@@ -1,0 +1,7 @@
+-- Laws of the store's rows.
+pub mod Rows
+pub mod Adding
+pub mod Walk
+pub mod Counting
+pub mod Listed
+pub mod Whole

@@ -1,0 +1,121 @@
+-- Rows that stand and are in order: each is one place of a route, and no two are the same. So there are as many rows as
+-- places exactly if every place is a row. Assumes nothing.
+use Prim.Native.Nat.{ℕ, zero, suc, _+_, _*_, _<_}
+use mathlib.Core.Path.{_≡_, refl, sym, ap, _∙_}
+use mathlib.Core.Bool.{Bool, true, false, and-eq-true-iff}
+use native.Mathlib.Nat.{lt-trans}
+use native.Mathlib.Omega.{arith}
+use lib.Dec.{eqb, ltb}
+use borrow.Author.Tests.{ltb-true, eqb-true, eq-eqb, ne-eqb}
+use Rattle.kinds.specs.Ranges.{mostChannels}
+use Rattle.room.specs.Layout.{Store, linksOf, channelsOf, rowsOf, rowChannelOf, rowPlaceOf, hopsOf, routeOf}
+use Rattle.room.specs.Folds.{every, sumTo}
+use Rattle.room.specs.Sound.{rowStands, rowDelayOf, rowFollows, rowSound, rowsSound, rowIs, listed, allListed}
+use Rattle.room.specs.Ranged.{Fit}
+use Rattle.room.proofs.Laws.Folds.{below, every-at}
+use Rattle.room.proofs.Laws.Sound.{fit-counts, fit-channel}
+use Rattle.sound.specs.Rows.{follows}
+use Rattle.sound.proofs.Laws.Rows.{Stands, stands-is}
+use Rattle.sound.proofs.Laws.Counting.{never, count, unit, sum-zero, sum-only, count-some, count-full, count-less}
+use Rattle.sound.proofs.Laws.Counting.{sums-equal, rows-are}
+
+-- the order of rows as one number that rises
+abbrev key : (d c : ℕ) → ℕ
+key d c = mostChannels * d + c
+
+follows-key : (d′ c′ d c : ℕ) → c′ < mostChannels → follows d′ c′ d c ≡ true → key d′ c′ < key d c
+follows-key d′ c′ d c h e = go (ltb d′ d) refl
+  where
+    go : (b : Bool) → ltb d′ d ≡ b → key d′ c′ < key d c
+    go true b = omega (arith, ltb-true d′ d b)
+    go false b =
+        let s = and-eq-true-iff (eqb d′ d) _ .0 (rw b at e) in
+        omega (arith, eqb-true d′ d (s .0), ltb-true c′ c (s .1))
+
+module _ (w : Store) (f : Fit w) (s : every (rowsSound w) (linksOf w) ≡ true) where
+  row-sound : (l k : ℕ) → l < linksOf w → k < rowsOf w l → rowSound w l k ≡ true
+  row-sound l k hl hk =
+      let e = and-eq-true-iff (every (rowSound w l) (rowsOf w l)) _ .0 (every-at (rowsSound w) (linksOf w) s l hl) in
+      every-at (rowSound w l) (rowsOf w l) (e .0) k hk
+
+  row-stands : (l k : ℕ) → l < linksOf w → k < rowsOf w l → Stands w l (rowChannelOf w l k) (rowPlaceOf w l k)
+  row-stands l k hl hk =
+      stands-is w l (rowChannelOf w l k) (rowPlaceOf w l k) (and-eq-true-iff (rowStands w l k) _ .0 (row-sound l k hl hk) .0)
+
+  abbrev row-key : (l k : ℕ) → ℕ
+  row-key l k = key (rowDelayOf w l k) (rowChannelOf w l k)
+
+  key-next : (l k : ℕ) → l < linksOf w → suc k < rowsOf w l → row-key l k < row-key l (suc k)
+  unfolding rowFollows
+  key-next l k hl hk =
+      let e = and-eq-true-iff (rowStands w l (suc k)) _ .0 (row-sound l (suc k) hl hk) .1 in
+      let o = and-eq-true-iff (rowFollows w l (suc k)) _ .0 e .0 in
+      let c : rowChannelOf w l k < channelsOf w = row-stands l k hl (omega arith) .channel in
+      let m : rowChannelOf w l k < mostChannels = omega (arith, fit-counts w f .channels-most) in
+      follows-key (rowDelayOf w l k) (rowChannelOf w l k) (rowDelayOf w l (suc k)) (rowChannelOf w l (suc k)) m o
+
+  key-rises : (l i k : ℕ) → l < linksOf w → i < k → k < rowsOf w l → row-key l i < row-key l k
+  key-rises l i zero hl h hk = absurd (omega arith)
+  key-rises l i (suc k) hl h hk =
+      below i k h (λ b. lt-trans (key-rises l i k hl b (omega arith)) (key-next l k hl hk)) (λ e. rw e (key-next l k hl hk))
+
+  -- no two rows of a link are the same place
+  differ : (c j l : ℕ) → l < linksOf w → (i k : ℕ) → i < k → k < rowsOf w l → rowIs w c j l i ≡ true → rowIs w c j l k ≡ true → ⊥
+  differ c j l hl i k h hk a b =
+      let x = and-eq-true-iff (eqb (rowChannelOf w l i) c) _ .0 a in
+      let y = and-eq-true-iff (eqb (rowChannelOf w l k) c) _ .0 b in
+      let ci : rowChannelOf w l i ≡ c = eqb-true (rowChannelOf w l i) c (x .0) in
+      let ck : rowChannelOf w l k ≡ c = eqb-true (rowChannelOf w l k) c (y .0) in
+      let ji : rowPlaceOf w l i ≡ j = eqb-true (rowPlaceOf w l i) j (x .1) in
+      let jk : rowPlaceOf w l k ≡ j = eqb-true (rowPlaceOf w l k) j (y .1) in
+      let d : rowDelayOf w l i ≡ rowDelayOf w l k = rw (ci, ck, ji, jk) in
+      omega (arith, key-rises l i k hl h hk)
+
+  -- a row is one place
+  one-place : (l k : ℕ) → l < linksOf w → k < rowsOf w l
+      → sumTo (λ c. sumTo (λ j. count (rowIs w c j l) k) (hopsOf w c)) (channelsOf w) ≡ 1
+  one-place l k hl hk =
+      let t = row-stands l k hl hk in
+      let c = rowChannelOf w l k in
+      let j = rowPlaceOf w l k in
+      sum-only (λ c. sumTo (λ j. count (rowIs w c j l) k) (hopsOf w c)) (channelsOf w) c (t .channel) other-channel
+      ∙ sum-only (λ j. count (rowIs w c j l) k) (hopsOf w c) j (t .place) other-place
+      ∙ rw (eq-eqb c c refl, eq-eqb j j refl)
+    where
+      other-channel : (c : ℕ) → c < channelsOf w → (c ≡ rowChannelOf w l k → ⊥)
+          → sumTo (λ j. count (rowIs w c j l) k) (hopsOf w c) ≡ 0
+      other-channel c h n =
+          sum-zero (λ j. count (rowIs w c j l) k) (hopsOf w c) (λ j b. rw (ne-eqb (rowChannelOf w l k) c (λ e. n (sym e))))
+
+      other-place : (j : ℕ) → j < hopsOf w (rowChannelOf w l k) → (j ≡ rowPlaceOf w l k → ⊥)
+          → count (rowIs w (rowChannelOf w l k) j l) k ≡ 0
+      other-place j h n = rw (eq-eqb (rowChannelOf w l k) (rowChannelOf w l k) refl, ne-eqb (rowPlaceOf w l k) j (λ e. n (sym e)))
+
+  -- a place is a row of its own link alone, and once
+  of-place : (c j : ℕ) → c < channelsOf w → j < hopsOf w c
+      → sumTo (λ l. sumTo (count (rowIs w c j l)) (rowsOf w l)) (linksOf w) ≡ unit (listed w c j)
+  of-place c j hc hj =
+      let l = routeOf w c j in
+      let hl : l < linksOf w = fit-channel w f c hc .route .known j hj in
+      sum-only (λ l. sumTo (count (rowIs w c j l)) (rowsOf w l)) (linksOf w) l hl other-link
+      ∙ count-some (rowIs w c j l) (rowsOf w l) (differ c j l hl)
+    where
+      other-link : (l : ℕ) → l < linksOf w → (l ≡ routeOf w c j → ⊥) → sumTo (count (rowIs w c j l)) (rowsOf w l) ≡ 0
+      other-link l h n = sum-zero (count (rowIs w c j l)) (rowsOf w l) (λ k b. ap unit (never (rowIs w c j l k) (λ e.
+          let x = and-eq-true-iff (eqb (rowChannelOf w l k) c) _ .0 e in
+          let d = eqb-true (rowChannelOf w l k) c (x .0) in
+          let i = eqb-true (rowPlaceOf w l k) j (x .1) in
+          n (sym (rw (d, i) at (row-stands l k h b .here))))))
+
+  as-many : eqb (sumTo (rowsOf w) (linksOf w)) (sumTo (hopsOf w) (channelsOf w)) ≡ every (allListed w) (channelsOf w)
+  as-many =
+      let rows = rows-are (linksOf w) (channelsOf w) (rowsOf w) (hopsOf w) (λ c j l. count (rowIs w c j l)) (λ c. count (listed w c))
+      one-place of-place in
+      ap (λ n. eqb n (sumTo (hopsOf w) (channelsOf w))) rows
+      ∙ sums-equal (λ c. sumTo (count (listed w c)) (hopsOf w c)) (hopsOf w) (allListed w) (channelsOf w)
+      (λ c h. count-full (listed w c) (hopsOf w c))
+      (λ c h. count-less (listed w c) (hopsOf w c))
+
+  pub counted : (rows places : ℕ) → rows ≡ sumTo (rowsOf w) (linksOf w) → places ≡ sumTo (hopsOf w) (channelsOf w)
+      → eqb rows places ≡ every (allListed w) (channelsOf w)
+  counted rows places r p = rw (r, p) as-many

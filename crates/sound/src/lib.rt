@@ -1,0 +1,222 @@
+// Whether a store is sound: document 01, "A store is sound when: ..". Every call but set-up asks this first, so each part
+// is one pass over plain numbers. A part reads only what the parts before it have found in range.
+use kinds::CheckedLink;
+use kinds::Link;
+use kinds::Network;
+use kinds::Slot;
+use room::channel;
+use room::head;
+use room::link;
+ghost use mathlib.Core.Path.{_≡_};
+ghost use mathlib.Core.Bool.{true};
+ghost use Prim.Native.Nat.{_<_};
+ghost use Rattle.kinds.specs.Ranges.{mostLinks};
+ghost use Rattle.room.specs.Layout.{Long, linksOf, channelsOf, rowsOf, hopsOf};
+ghost use Rattle.room.specs.Folds.{every, sumTo};
+ghost use Rattle.room.specs.Sound.{countsFit, linkFits, channelSound, rowsSound, allListed, soundOf};
+ghost use Rattle.room.specs.Ranged.{Fit};
+ghost use Rattle.sound.specs.Rows.{stands, follows};
+
+// Whether the counts of the head and the clock are in range.
+fn counts_fit(store: &[u64]) -> bool
+    requires { ⌜ Long (now store) ⌝ }
+    ensures { λ r. ⌜ r ≡ countsFit (now (store .entry)) ⌝ }
+{
+    if !Network::links_fit(head::links(store) as u64) {
+        return false;
+    }
+    if !Network::channels_fit(head::channels(store) as u64) {
+        return false;
+    }
+    Slot::is_slot(head::clock(store))
+}
+
+// Whether link `l` passes 16 and has no more rows than there is room for.
+fn link_fits(store: &[u64], l: usize) -> bool
+    requires { ⌜ Long (now store) ⌝ }
+    requires { ⌜ l < mostLinks ⌝ }
+    ensures { λ r. ⌜ r ≡ linkFits (now (store .entry)) l ⌝ }
+{
+    let from = link::from(store, l);
+    let to = link::to(store, l);
+    let horizon = link::horizon(store, l);
+    let buffer = link::buffer(store, l);
+    let CheckedLink::Good(_) = Link::new(from, to, horizon, buffer) else {
+        return false;
+    };
+    Link::rows_fit(link::rows(store, l))
+}
+
+// Whether every link does.
+fn links_fit(store: &[u64]) -> bool
+    requires { ⌜ Long (now store) ⌝ }
+    requires { ⌜ countsFit (now store) ≡ true ⌝ }
+    ensures { λ r. ⌜ r ≡ every (linkFits (now (store .entry))) (linksOf (now (store .entry))) ⌝ }
+{
+    let links = head::links(store);
+    let mut l: usize = 0;
+    while l < links {
+        if !link_fits(store, l) {
+            return false;
+        }
+        l += 1;
+    }
+    true
+}
+
+// Whether every channel passes 1 to 5 and its messages are in order.
+fn channels_sound(store: &[u64]) -> bool
+    requires { ⌜ Long (now store) ⌝ }
+    requires { ⌜ countsFit (now store) ≡ true ⌝ }
+    ensures { λ r. ⌜ r ≡ every (channelSound (now (store .entry))) (channelsOf (now (store .entry))) ⌝ }
+{
+    let channels = head::channels(store);
+    let mut c: usize = 0;
+    while c < channels {
+        if !stream::channel_is_sound(store, c) {
+            return false;
+        }
+        c += 1;
+    }
+    true
+}
+
+// Whether channel `c` is routed over link `l`, at place `j` of its route.
+fn row_stands(store: &[u64], l: usize, c: usize, j: usize) -> bool
+    requires { ⌜ Fit (now store) ⌝ }
+    ensures { λ r. ⌜ r ≡ stands (now (store .entry)) l c j ⌝ }
+{
+    if c >= head::channels(store) {
+        return false;
+    }
+    if j >= channel::hops(store, c) {
+        return false;
+    }
+    channel::route(store, c, j) == l
+}
+
+// Whether a row comes after the one above it, channel `higher` with the delay `above`: by delay, then by channel number.
+fn row_follows(above: u64, higher: usize, delay: u64, c: usize) -> bool
+    ensures { λ r. ⌜ r ≡ follows above higher delay c ⌝ }
+{
+    if above < delay {
+        return true;
+    }
+    if above != delay {
+        return false;
+    }
+    higher < c
+}
+
+// Whether the rows of link `l` are channels routed over it, in order, hold no more than is reserved for them, and fit its
+// buffer together.
+fn link_rows_sound(store: &[u64], l: usize) -> bool
+    requires { ⌜ Fit (now store) ⌝ }
+    requires { ⌜ l < linksOf (now store) ⌝ }
+    ensures { λ r. ⌜ r ≡ rowsSound (now (store .entry)) l ⌝ }
+{
+    let rows = link::rows(store, l);
+    // the delay and the channel of the row above; a delay is at least 1, so that the first row comes after these
+    let mut above: u64 = 0;
+    let mut higher: usize = 0;
+    let mut sum: u64 = 0;
+    let mut k: usize = 0;
+    while k < rows {
+        let c = link::row_channel(store, l, k);
+        let j = link::row_place(store, l, k);
+        if !row_stands(store, l, c, j) {
+            return false;
+        }
+        let delay = channel::delay(store, c, j);
+        if !row_follows(above, higher, delay, c) {
+            return false;
+        }
+        let reserved = route::reserved(store, c, j);
+        if route::held(store, c, j) > reserved {
+            return false;
+        }
+        sum += reserved;
+        above = delay;
+        higher = c;
+        k += 1;
+    }
+    sum <= link::buffer(store, l)
+}
+
+// Whether those of every link are.
+fn rows_sound(store: &[u64]) -> bool
+    requires { ⌜ Fit (now store) ⌝ }
+    ensures { λ r. ⌜ r ≡ every (rowsSound (now (store .entry))) (linksOf (now (store .entry))) ⌝ }
+{
+    let links = head::links(store);
+    let mut l: usize = 0;
+    while l < links {
+        if !link_rows_sound(store, l) {
+            return false;
+        }
+        l += 1;
+    }
+    true
+}
+
+// How many rows the links have in all.
+fn all_rows(store: &[u64]) -> usize
+    requires { ⌜ Fit (now store) ⌝ }
+    ensures { λ r. ⌜ r ≡ sumTo (rowsOf (now (store .entry))) (linksOf (now (store .entry))) ⌝ }
+{
+    let links = head::links(store);
+    let mut sum: usize = 0;
+    let mut l: usize = 0;
+    while l < links {
+        sum += link::rows(store, l);
+        l += 1;
+    }
+    sum
+}
+
+// How many places the routes have in all.
+fn all_places(store: &[u64]) -> usize
+    requires { ⌜ Fit (now store) ⌝ }
+    ensures { λ r. ⌜ r ≡ sumTo (hopsOf (now (store .entry))) (channelsOf (now (store .entry))) ⌝ }
+{
+    let channels = head::channels(store);
+    let mut sum: usize = 0;
+    let mut c: usize = 0;
+    while c < channels {
+        sum += channel::hops(store, c);
+        c += 1;
+    }
+    sum
+}
+
+// Whether every place of every route is a row of its link. Rows that stand are places of routes, and rows in order are no
+// place twice: so every place is a row exactly if there are as many rows as places.
+fn all_listed(store: &[u64]) -> bool
+    requires { ⌜ Fit (now store) ⌝ }
+    requires { ⌜ every (rowsSound (now store)) (linksOf (now store)) ≡ true ⌝ }
+    ensures { λ r. ⌜ r ≡ every (allListed (now (store .entry))) (channelsOf (now (store .entry))) ⌝ }
+{
+    all_rows(store) == all_places(store)
+}
+
+// Whether the store is sound: any numbers, and any length.
+pub fn is_sound(store: &[u64]) -> bool
+    ensures { λ r. ⌜ r ≡ soundOf (now (store .entry)) ⌝ }
+{
+    if store.len() < room::LENGTH {
+        return false;
+    }
+    if !counts_fit(store) {
+        return false;
+    }
+    if !links_fit(store) {
+        return false;
+    }
+    if !channels_sound(store) {
+        return false;
+    }
+    if !rows_sound(store) {
+        return false;
+    }
+    all_listed(store)
+}
