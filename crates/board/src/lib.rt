@@ -37,9 +37,9 @@ pub extern "C" fn byanghosu_response(
             }
             0
         }
-        Reply::Refused(n, at) => {
+        Reply::Refused(refusal, at) => {
             *place = at;
-            n
+            refusal
         }
     }
 }

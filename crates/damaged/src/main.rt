@@ -138,29 +138,39 @@ fn print_verdict(sound: bool) {
     }
 }
 
+fn print_line(at: usize, value: u64, more: bool, less: bool, zero: bool, largest: bool) {
+    print_number(at as u64);
+    print(b" ");
+    print_number(value);
+    print_verdict(more);
+    print_verdict(less);
+    print_verdict(zero);
+    print_verdict(largest);
+    print(b"\n");
+}
+
+fn one_more(n: u64) -> u64 {
+    if n < LARGEST { n + 1 } else { n }
+}
+
+fn one_less(n: u64) -> u64 {
+    if n > 0 { n - 1 } else { n }
+}
+
 // Damages one number, and prints its line if that can be seen.
 fn damage(store: &mut [u64], at: usize) -> bool {
     if at >= store.len() {
         return false;
     }
     let value = store[at];
-    let more = if value < LARGEST { value + 1 } else { value };
-    let less = if value > 0 { value - 1 } else { value };
-    let up = is_sound_with(store, at, more);
-    let down = is_sound_with(store, at, less);
+    let more = is_sound_with(store, at, one_more(value));
+    let less = is_sound_with(store, at, one_less(value));
     let zero = is_sound_with(store, at, 0);
     let largest = is_sound_with(store, at, LARGEST);
-    if up && (down && (zero && largest)) {
+    if more && (less && (zero && largest)) {
         return false;
     }
-    print_number(at as u64);
-    print(b" ");
-    print_number(value);
-    print_verdict(up);
-    print_verdict(down);
-    print_verdict(zero);
-    print_verdict(largest);
-    print(b"\n");
+    print_line(at, value, more, less, zero, largest);
     true
 }
 

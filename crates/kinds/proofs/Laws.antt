@@ -3,7 +3,7 @@ use Prim.Native.Nat.{ℕ, _≤_}
 use mathlib.Core.Path.{_≡_, refl, sym, _∙_}
 use mathlib.Core.Bool.{Bool, true, false, _&&_, not, and-eq-true-iff}
 use lib.Dec.{leb, eqb}
-use borrow.Author.Tests.{le-leb, leb-true, eqb-false, ne-eqb, not-true}
+use borrow.Author.Tests.{le-leb, leb-true, eqb-false, ne-eqb, not-true, not-false}
 use Rattle.kinds.specs.Ranges.{within, mostNode, mostHorizon, mostBuffer, mostC, mostP, mostD, mostB, inRangeNode, inRangeHorizon, inRangeBuffer}
 use Rattle.kinds.specs.Ranges.{inRangeC, inRangeP, inRangeD, inRangeB, inRangeHops}
 use Rattle.kinds.specs.Checks.{linkPasses, channelPasses, newLink, newChannel, newRoute}
@@ -33,12 +33,19 @@ goes r a b s e t f =
     let h : a ≡ true = sym e ∙ t in
     rw (h, f)
 
--- The same where the code answers false by itself.
-pub fails : (a b : Bool) → a ≡ false → false ≡ (a && b)
-fails a b e = rw e
+-- `if !x { return false; }`, where x is the test a.
+module _ {x a : Bool} (e : x ≡ a) where
+  pub refuted : not x ≡ true → a ≡ false
+  refuted h = sym e ∙ not-true x h
 
-pub passes : (a b s : Bool) → a ≡ true → s ≡ b → s ≡ (a && b)
-passes a b s e f = rw e f
+  pub held : not x ≡ false → a ≡ true
+  held h = sym e ∙ not-false x h
+
+  pub fails : (b : Bool) → not x ≡ true → false ≡ (a && b)
+  fails b h = rw (refuted h)
+
+  pub passes : {b s : Bool} → not x ≡ false → s ≡ b → s ≡ (a && b)
+  passes h g = rw (held h) g
 
 -- "its links pass 16", as bounds
 pub record GoodLink (from to horizon buffer : ℕ) : Type 0 where

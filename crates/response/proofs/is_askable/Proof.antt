@@ -7,6 +7,7 @@ use mathlib.Core.List.{List}
 use lib.ListN.{length}
 use borrow.Author.Needs.{needs}
 use borrow.Author.Tests.{not-true, not-false, eq-eqb, ne-eqb}
+use Rattle.kinds.proofs.Laws.{refuted, held}
 use Rattle.kinds.specs.Ranges.{inRangeC, inRangeP, inRangeRows}
 use Rattle.response.specs.Numbers.{rowsOf, wholeRows}
 use Rattle.response.proofs.Laws.Numbers.{rows-count}
@@ -28,10 +29,10 @@ few : (c : tie.Else2) → inRangeRows (length (rowsOf (numbers (c .before .befor
 few c = rows (c .before) ∙ not-false _ (c .if2 .left)
 
 ownC : (c : tie.Else3) → inRangeC (c .before .before .before .before .before .before .args .own) ≡ true
-ownC c = sym (c .before .c-in-range .ensures) ∙ not-false _ (c .if3 .left)
+ownC c = held (c .before .c-in-range .ensures) (c .if3 .left)
 
 limitP : (c : tie.Else4) → inRangeP (c .before .before .before .before .before .before .before .before .args .limit) ≡ true
-limitP c = sym (c .before .p-in-range .ensures) ∙ not-false _ (c .if4 .left)
+limitP c = held (c .before .p-in-range .ensures) (c .if4 .left)
 
 returns : tie.Need-returns
 returns c = rw (ne-eqb _ _ (c .if1 .taken))
@@ -50,7 +51,7 @@ c-in-range-requires c κs = search needs
 returns-3 : tie.Need-returns-3
 returns-3 c =
     let two = c .before .before in
-    rw (whole (two .before .before), few two, sym (c .before .c-in-range .ensures) ∙ not-true _ (c .if3 .taken))
+    rw (whole (two .before .before), few two, refuted (c .before .c-in-range .ensures) (c .if3 .taken))
 
 p-in-range-requires : tie.Need-p-in-range-requires
 p-in-range-requires c κs = search needs
@@ -60,7 +61,7 @@ returns-4 c =
     let three = c .before .before in
     let two = three .before .before in
     rw
-    (whole (two .before .before), few two, ownC three, sym (c .before .p-in-range .ensures) ∙ not-true _ (c .if4 .taken))
+    (whole (two .before .before), few two, ownC three, refuted (c .before .p-in-range .ensures) (c .if4 .taken))
 
 rows-in-range-requires : tie.Need-rows-in-range-requires
 rows-in-range-requires c κs = search needs

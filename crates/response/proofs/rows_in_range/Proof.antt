@@ -5,7 +5,7 @@ use mathlib.Core.Path.{refl, sym, _∙_}
 use native.Mathlib.Omega.{arith}
 use lib.ListN.{length}
 use borrow.Author.Needs.{needs}
-use borrow.Author.Tests.{not-true, not-false}
+use Rattle.kinds.proofs.Laws.{refuted, held}
 use Rattle.response.proofs.Laws.Numbers.{Looking, looking-bad-c, looking-bad-p, looking-more, looking-done}
 use Rattle.response.proofs.rows_in_range.Statement.{statement}
 use Rattle.response.proofs.rows_in_range.Tie as tie
@@ -34,7 +34,7 @@ c-in-range-requires c κs = search needs
 returns : tie.Need-returns Inv-loop μ-loop
 returns c =
     let i = c .before .before .before in
-    looking-bad-c _ _ (i .before .loop .inv) (i .loop-test .taken) (sym (c .before .c-in-range .ensures) ∙ not-true _ (c .if1 .taken))
+    looking-bad-c _ _ (i .before .loop .inv) (i .loop-test .taken) (refuted (c .before .c-in-range .ensures) (c .if1 .taken))
 
 add-p-in-range : tie.Need-add-p-in-range Inv-loop μ-loop
 add-p-in-range c = omega arith
@@ -52,7 +52,7 @@ returns-2 : tie.Need-returns-2 Inv-loop μ-loop
 returns-2 c =
     let e = c .before .before .before in
     let i = e .before .before .before in
-    looking-bad-p _ _ (i .before .loop .inv) (i .loop-test .taken) (sym (e .before .c-in-range .ensures) ∙ not-false _ (e .if1 .left)) (sym (c .before .p-in-range .ensures) ∙ not-true _ (c .if2 .taken))
+    looking-bad-p _ _ (i .before .loop .inv) (i .loop-test .taken) (held (e .before .c-in-range .ensures) (e .if1 .left)) (refuted (c .before .p-in-range .ensures) (c .if2 .taken))
 
 add-at : tie.Need-add-at Inv-loop μ-loop
 add-at c = omega arith
@@ -64,7 +64,7 @@ loop-again : tie.Need-loop-again Inv-loop μ-loop
 loop-again c =
     let e = c .before .before .before in
     let i = e .before .before .before in
-    looking-more _ _ (i .before .loop .inv) (i .loop-test .taken) (sym (e .before .c-in-range .ensures) ∙ not-false _ (e .if1 .left)) (sym (c .before .p-in-range .ensures) ∙ not-false _ (c .if2 .left))
+    looking-more _ _ (i .before .loop .inv) (i .loop-test .taken) (held (e .before .c-in-range .ensures) (e .if1 .left)) (held (c .before .p-in-range .ensures) (c .if2 .left))
 
 returns-3 : tie.Need-returns-3 Inv-loop μ-loop
 returns-3 c = sym (looking-done _ _ (c .before .loop .inv) (c .loop-test .left))

@@ -1,9 +1,8 @@
-use mathlib.Core.Path.{sym, _∙_}
-use borrow.Author.Tests.{not-true, not-false}
 -- `route::parted_link` meets its contract: the links passed start where the one before ends. Assumes nothing.
 use Prim.Native.Nat.{_-_}
 use native.Mathlib.Omega.{arith}
 use borrow.Author.Needs.{needs}
+use Rattle.kinds.proofs.Laws.{refuted, held}
 use Rattle.room.proofs.Laws.Folds.{Passing, passing-none, passing-more, passing-first, passing-end, every-front}
 use Rattle.room.specs.Route.{from, joins}
 use Rattle.route.proofs.parted_link.Statement.{statement}
@@ -26,7 +25,7 @@ is-joined-requires c κs =
 returns : tie.Need-returns Inv-loop μ-loop
 returns c =
     let t = c .before .before in
-    passing-first _ _ _ (t .before .loop .inv) (t .loop-test .taken) (sym (c .before .is-joined .ensures) ∙ not-true _ (c .if1 .taken))
+    passing-first _ _ _ (t .before .loop .inv) (t .loop-test .taken) (refuted (c .before .is-joined .ensures) (c .if1 .taken))
 
 add-j : tie.Need-add-j Inv-loop μ-loop
 add-j c = omega arith
@@ -37,7 +36,7 @@ loop-less c = omega arith
 loop-again : tie.Need-loop-again Inv-loop μ-loop
 loop-again c =
     let t = c .before .before in
-    passing-more _ _ _ (t .before .loop .inv) (t .loop-test .taken) (sym (c .before .is-joined .ensures) ∙ not-false _ (c .if1 .left))
+    passing-more _ _ _ (t .before .loop .inv) (t .loop-test .taken) (held (c .before .is-joined .ensures) (c .if1 .left))
 
 returns-2 : tie.Need-returns-2 Inv-loop μ-loop
 returns-2 c = passing-end _ _ _ (c .before .loop .inv) (c .loop-test .left)

@@ -130,8 +130,8 @@ module _ (links channels : ℕ) (rows hops : ℕ → ℕ) (H : (c j l k : ℕ) �
       ∙ sum-swap (λ l j. sumTo (H c j l) (rows l)) (hops c) links
       ∙ sum-same (λ j. sumTo (λ l. sumTo (H c j l) (rows l)) links) (r c) (hops c) (λ j g. of-place c j h g)
 
-  pub rows-are : sumTo rows links ≡ sumTo (λ c. sumTo (r c) (hops c)) channels
-  rows-are =
+  pub all-rows : sumTo rows links ≡ sumTo (λ c. sumTo (r c) (hops c)) channels
+  all-rows =
       sum-same rows (λ l. sumTo (λ c. of-both c l) channels) links of-link
       ∙ sum-swap (λ l c. of-both c l) channels links
       ∙ sum-same (λ c. sumTo (of-both c) links) (λ c. sumTo (r c) (hops c)) channels of-channel

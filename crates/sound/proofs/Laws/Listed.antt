@@ -2,57 +2,42 @@
 -- places exactly if every place is a row. Assumes nothing.
 use Prim.Native.Nat.{ℕ, zero, suc, _+_, _*_, _<_}
 use mathlib.Core.Path.{_≡_, refl, sym, ap, _∙_}
-use mathlib.Core.Bool.{Bool, true, false, and-eq-true-iff}
+use mathlib.Core.Bool.{true, and-eq-true-iff}
+use mathlib.Core.Logic.{inl, inr}
 use native.Mathlib.Nat.{lt-trans}
 use native.Mathlib.Omega.{arith}
-use lib.Dec.{eqb, ltb}
-use borrow.Author.Tests.{ltb-true, eqb-true, eq-eqb, ne-eqb}
+use lib.Dec.{eqb}
+use borrow.Author.Tests.{eqb-true, eq-eqb, ne-eqb}
 use Rattle.kinds.specs.Ranges.{mostChannels}
 use Rattle.room.specs.Layout.{Store, linksOf, channelsOf, rowsOf, rowChannelOf, rowPlaceOf, hopsOf, routeOf}
 use Rattle.room.specs.Folds.{every, sumTo}
-use Rattle.room.specs.Sound.{rowStands, rowDelayOf, rowFollows, rowSound, rowsSound, rowIs, listed, allListed}
+use Rattle.room.specs.Sound.{rowDelayOf, rowsSound, rowIs, listed, allListed}
 use Rattle.room.specs.Ranged.{Fit}
 use Rattle.room.proofs.Laws.Folds.{below, every-at}
-use Rattle.room.proofs.Laws.Sound.{fit-counts, fit-channel}
-use Rattle.sound.specs.Rows.{follows}
-use Rattle.sound.proofs.Laws.Rows.{Stands, stands-is}
+use Rattle.room.proofs.Laws.Sound.{Before, RowsAre, rows-are, fit-counts, fit-channel}
 use Rattle.sound.proofs.Laws.Counting.{never, count, unit, sum-zero, sum-only, count-some, count-full, count-less}
-use Rattle.sound.proofs.Laws.Counting.{sums-equal, rows-are}
+use Rattle.sound.proofs.Laws.Counting.{sums-equal, all-rows}
 
 -- the order of rows as one number that rises
 abbrev key : (d c : ℕ) → ℕ
 key d c = mostChannels * d + c
 
-follows-key : (d′ c′ d c : ℕ) → c′ < mostChannels → follows d′ c′ d c ≡ true → key d′ c′ < key d c
-follows-key d′ c′ d c h e = go (ltb d′ d) refl
-  where
-    go : (b : Bool) → ltb d′ d ≡ b → key d′ c′ < key d c
-    go true b = omega (arith, ltb-true d′ d b)
-    go false b =
-        let s = and-eq-true-iff (eqb d′ d) _ .0 (rw b at e) in
-        omega (arith, eqb-true d′ d (s .0), ltb-true c′ c (s .1))
+key-less : (d c d′ c′ : ℕ) → c < mostChannels → Before d c d′ c′ → key d c < key d′ c′
+key-less d c d′ c′ h (inl l) = omega arith
+key-less d c d′ c′ h (inr s) = omega (arith, s .0, s .1)
 
 module _ (w : Store) (f : Fit w) (s : every (rowsSound w) (linksOf w) ≡ true) where
-  row-sound : (l k : ℕ) → l < linksOf w → k < rowsOf w l → rowSound w l k ≡ true
-  row-sound l k hl hk =
-      let e = and-eq-true-iff (every (rowSound w l) (rowsOf w l)) _ .0 (every-at (rowsSound w) (linksOf w) s l hl) in
-      every-at (rowSound w l) (rowsOf w l) (e .0) k hk
-
-  row-stands : (l k : ℕ) → l < linksOf w → k < rowsOf w l → Stands w l (rowChannelOf w l k) (rowPlaceOf w l k)
-  row-stands l k hl hk =
-      stands-is w l (rowChannelOf w l k) (rowPlaceOf w l k) (and-eq-true-iff (rowStands w l k) _ .0 (row-sound l k hl hk) .0)
+  rows-on : (l : ℕ) → l < linksOf w → RowsAre w l
+  rows-on l hl = rows-are w l (every-at (rowsSound w) (linksOf w) s l hl)
 
   abbrev row-key : (l k : ℕ) → ℕ
   row-key l k = key (rowDelayOf w l k) (rowChannelOf w l k)
 
   key-next : (l k : ℕ) → l < linksOf w → suc k < rowsOf w l → row-key l k < row-key l (suc k)
-  unfolding rowFollows
   key-next l k hl hk =
-      let e = and-eq-true-iff (rowStands w l (suc k)) _ .0 (row-sound l (suc k) hl hk) .1 in
-      let o = and-eq-true-iff (rowFollows w l (suc k)) _ .0 e .0 in
-      let c : rowChannelOf w l k < channelsOf w = row-stands l k hl (omega arith) .channel in
+      let c : rowChannelOf w l k < channelsOf w = rows-on l hl .rows k (omega arith) .channel in
       let m : rowChannelOf w l k < mostChannels = omega (arith, fit-counts w f .channels-most) in
-      follows-key (rowDelayOf w l k) (rowChannelOf w l k) (rowDelayOf w l (suc k)) (rowChannelOf w l (suc k)) m o
+      key-less (rowDelayOf w l k) (rowChannelOf w l k) (rowDelayOf w l (suc k)) (rowChannelOf w l (suc k)) m (rows-on l hl .sorted k hk)
 
   key-rises : (l i k : ℕ) → l < linksOf w → i < k → k < rowsOf w l → row-key l i < row-key l k
   key-rises l i zero hl h hk = absurd (omega arith)
@@ -75,7 +60,7 @@ module _ (w : Store) (f : Fit w) (s : every (rowsSound w) (linksOf w) ≡ true) 
   one-place : (l k : ℕ) → l < linksOf w → k < rowsOf w l
       → sumTo (λ c. sumTo (λ j. count (rowIs w c j l) k) (hopsOf w c)) (channelsOf w) ≡ 1
   one-place l k hl hk =
-      let t = row-stands l k hl hk in
+      let t = rows-on l hl .rows k hk in
       let c = rowChannelOf w l k in
       let j = rowPlaceOf w l k in
       sum-only (λ c. sumTo (λ j. count (rowIs w c j l) k) (hopsOf w c)) (channelsOf w) c (t .channel) other-channel
@@ -105,11 +90,11 @@ module _ (w : Store) (f : Fit w) (s : every (rowsSound w) (linksOf w) ≡ true) 
           let x = and-eq-true-iff (eqb (rowChannelOf w l k) c) _ .0 e in
           let d = eqb-true (rowChannelOf w l k) c (x .0) in
           let i = eqb-true (rowPlaceOf w l k) j (x .1) in
-          n (sym (rw (d, i) at (row-stands l k h b .here))))))
+          n (sym (rw (d, i) at (rows-on l h .rows k b .here))))))
 
   as-many : eqb (sumTo (rowsOf w) (linksOf w)) (sumTo (hopsOf w) (channelsOf w)) ≡ every (allListed w) (channelsOf w)
   as-many =
-      let rows = rows-are (linksOf w) (channelsOf w) (rowsOf w) (hopsOf w) (λ c j l. count (rowIs w c j l)) (λ c. count (listed w c))
+      let rows = all-rows (linksOf w) (channelsOf w) (rowsOf w) (hopsOf w) (λ c j l. count (rowIs w c j l)) (λ c. count (listed w c))
       one-place of-place in
       ap (λ n. eqb n (sumTo (hopsOf w) (channelsOf w))) rows
       ∙ sums-equal (λ c. sumTo (count (listed w c)) (hopsOf w c)) (hopsOf w) (allListed w) (channelsOf w)

@@ -1,10 +1,10 @@
--- How the code goes through tests that it returns from, and a row's tests on the numbers that it has read. Assumes nothing.
+-- A link's and a row's tests on the numbers that the code has read. Assumes nothing.
 use Prim.Native.Nat.{ℕ, _≤_, _<_}
 use mathlib.Core.Path.{_≡_, sym, _∙_}
-use mathlib.Core.Bool.{Bool, true, false, _&&_, not, and-eq-true-iff}
+use mathlib.Core.Bool.{Bool, true, false, _&&_, not}
 use native.Mathlib.Omega.{arith}
 use lib.Dec.{eqb, ltb}
-use borrow.Author.Tests.{not-true, not-false, lt-ltb, le-ltb, ltb-true, eq-eqb, ne-eqb, eqb-true}
+use borrow.Author.Tests.{not-true, not-false, lt-ltb, le-ltb, eq-eqb, ne-eqb}
 use Rattle.kinds.specs.Ranges.{mostLinks, mostRows, mostChannels, mostHops, inRangeRows}
 use Rattle.kinds.specs.Checks.{newLink}
 use Rattle.kinds.specs.declared.Link.{Link}
@@ -16,20 +16,6 @@ use Rattle.room.specs.Sound.{linkFits}
 use Rattle.room.specs.Ranged.{Fit}
 use Rattle.room.proofs.Laws.Sound.{fit-counts, fit-rows, fit-ranged}
 use Rattle.sound.specs.Rows.{stands, follows}
-
--- `if !x { return false; }`, where x is the test a
-module _ {x a : Bool} (e : x ≡ a) where
-  pub refuted : not x ≡ true → a ≡ false
-  refuted h = sym e ∙ not-true x h
-
-  pub held : not x ≡ false → a ≡ true
-  held h = sym e ∙ not-false x h
-
-  pub fails : (b : Bool) → not x ≡ true → false ≡ (a && b)
-  fails b h = rw (refuted h)
-
-  pub passes : {b s : Bool} → not x ≡ false → s ≡ b → s ≡ (a && b)
-  passes h g = rw (held h) g
 
 -- what the constructor answers to a link's numbers
 abbrev pub checkedLink : Store → (l : ℕ) → CheckedLink
@@ -58,18 +44,6 @@ module _ (w : Store) (l c j n : ℕ) (e : n ≡ channelsOf w) where
 
     pub on-link : j < m → (r : ℕ) → r ≡ routeOf w c j → eqb r l ≡ stands w l c j
     on-link k r g = rw (lt-ltb c (channelsOf w) (omega arith), lt-ltb j (hopsOf w c) (omega arith), g)
-
--- channel c is routed over link l, at place j of its route
-pub record Stands (w : Store) (l c j : ℕ) : Type 0 where
-  pub channel : c < channelsOf w
-  pub place : j < hopsOf w c
-  pub here : routeOf w c j ≡ l
-
-pub stands-is : (w : Store) (l c j : ℕ) → stands w l c j ≡ true → Stands w l c j
-stands-is w l c j e =
-    let a = and-eq-true-iff (ltb c (channelsOf w)) _ .0 e in
-    let b = and-eq-true-iff (ltb j (hopsOf w c)) _ .0 (a .1) in
-    record { channel = ltb-true c (channelsOf w) (a .0); place = ltb-true j (hopsOf w c) (b .0); here = eqb-true (routeOf w c j) l (b .1) }
 
 -- A link, a channel and a place that are there, by the counts as they were read.
 module _ (w : Store) (f : Fit w) where

@@ -11,14 +11,14 @@ use mir.Syntax.{w64}
 use mir.Val.{Fits}
 use borrow.Author.Tests.{lt-ltb, le-leb, lt-leb}
 use Rattle.kinds.specs.Ranges.{mostChannels, mostRows, mostHops, mostHorizon, mostC, mostP}
-use Rattle.room.specs.Layout.{Store, bufferOf, horizonOf, rowsOf, rowChannelOf, rowPlaceOf, pOf, hopsOf, routeOf, delayOf, sentOf}
+use Rattle.room.specs.Layout.{Store, channelsOf, horizonOf, bufferOf, rowsOf, rowChannelOf, rowPlaceOf}
+use Rattle.room.specs.Layout.{pOf, hopsOf, routeOf, delayOf, sentOf}
 use Rattle.room.specs.Amounts.{reservedOf, enteredOf, heldOf}
 use Rattle.room.specs.Sound.{rowStands, rowDelayOf, rowFollows, rowReservedOf, rowHolds, rowSound, rowsSound}
 use Rattle.room.specs.Ranged.{Ranged, Fit}
 use Rattle.room.proofs.Laws.Folds.{Passing, passing-none, passing-more, passing-done, every-false}
-use Rattle.room.proofs.Laws.Sound.{fit-ranged, fit-flows}
+use Rattle.room.proofs.Laws.Sound.{fit-ranged, fit-flows, row-is}
 use Rattle.sound.specs.Rows.{stands, follows}
-use Rattle.sound.proofs.Laws.Rows.{Stands, stands-is}
 use Rattle.sound.proofs.Laws.Adding.{Adding, adding-none, adding-more, adding-fits, adding-done}
 
 -- the most that is reserved for a row
@@ -68,26 +68,26 @@ module _ {w : Store} {l k c j : ℕ} (r : Row w l k c j) where
       no-row w l k (r .below) (rw s)
 
   module _ (e : stands w l c j ≡ true) where
-    here : Stands w l c j
-    here = stands-is w l c j e
+    s : rowStands w l k ≡ true
+    s = rw (r .its-channel, r .its-place) at e
+
+    row-channel : c < channelsOf w
+    row-channel = rw (r .its-channel) (row-is w l k s .channel)
 
     pub row-place : j < hopsOf w c
-    row-place = here .place
+    row-place = rw (r .its-channel, r .its-place) (row-is w l k s .place)
 
     pub row-ranged : Ranged w c
-    row-ranged = fit-ranged w (r .fit) c (here .channel)
+    row-ranged = fit-ranged w (r .fit) c row-channel
 
     pub row-at : (c < mostChannels) × (j < mostHops)
-    row-at = (row-ranged .channel, omega (arith, here .place, row-ranged .hops-most))
+    row-at = (row-ranged .channel, omega (arith, row-place, row-ranged .hops-most))
 
     pub row-flows : sentOf w c j ≤ enteredOf w c j
-    row-flows = fit-flows w (r .fit) c (here .channel) j (here .place)
+    row-flows = fit-flows w (r .fit) c row-channel j row-place
 
     pub row-most : {reserved : ℕ} → reserved ≡ reservedOf w c j → reserved ≤ mostReserved
     row-most er = rw er (reserved-most w c j row-ranged row-place)
-
-    s : rowStands w l k ≡ true
-    s = rw (r .its-channel, r .its-place) at e
 
     module _ {above higher d : ℕ} (ea : above ≡ delayAbove w l k) (eh : higher ≡ channelAbove w l k) (ed : d ≡ delayOf w c j) where
       order : follows above higher d c ≡ rowFollows w l k

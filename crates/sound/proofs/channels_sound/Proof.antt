@@ -7,7 +7,7 @@ use Rattle.room.specs.Layout.{channelsOf}
 use Rattle.room.specs.Sound.{channelSound}
 use Rattle.room.proofs.Laws.Folds.{Passing, passing-none, passing-more, passing-done, every-false}
 use Rattle.room.proofs.Laws.Sound.{counts-are}
-use Rattle.sound.proofs.Laws.Rows.{refuted, held}
+use Rattle.kinds.proofs.Laws.{refuted, held}
 use Rattle.sound.proofs.channels_sound.Statement.{statement}
 use Rattle.sound.proofs.channels_sound.Tie as tie
 

@@ -2,7 +2,7 @@
 use mathlib.Core.Path.{_≡_, ap, _∙_}
 use Rattle.kinds.specs.Ranges.{inRangeLinks, inRangeChannels, isSlot}
 use Rattle.room.specs.Layout.{linksOf, channelsOf}
-use Rattle.sound.proofs.Laws.Rows.{fails, passes}
+use Rattle.kinds.proofs.Laws.{fails, passes}
 use borrow.Author.Needs.{needs}
 use Rattle.sound.proofs.counts_fit.Statement.{statement}
 use Rattle.sound.proofs.counts_fit.Tie as tie

@@ -1,6 +1,6 @@
 -- `sound::is_sound` meets its contract, part by part. Assumes nothing.
 use Rattle.room.specs.Ranged.{Fit}
-use Rattle.sound.proofs.Laws.Rows.{refuted, held}
+use Rattle.kinds.proofs.Laws.{refuted, held}
 use Rattle.sound.proofs.Laws.Whole.{Counted, Linked, Filled, too-short, bad-counts, bad-links, bad-channels, bad-rows, fit, lists}
 use borrow.Author.Needs.{needs}
 use Rattle.sound.proofs.is_sound.Statement.{statement}

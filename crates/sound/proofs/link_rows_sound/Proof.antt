@@ -7,7 +7,8 @@ use borrow.Author.Needs.{needs}
 use Rattle.kinds.specs.Ranges.{mostLinks, mostRows}
 use Rattle.room.specs.Layout.{rowsOf}
 use Rattle.sound.specs.Rows.{stands}
-use Rattle.sound.proofs.Laws.Rows.{refuted, held, link-most, rows-most}
+use Rattle.kinds.proofs.Laws.{refuted, held}
+use Rattle.sound.proofs.Laws.Rows.{link-most, rows-most}
 use Rattle.sound.proofs.Laws.Walk.{Walk, walk-none, walk-more, walk-fits, walk-done, Row, row-absent, row-place, row-ranged}
 use Rattle.sound.proofs.Laws.Walk.{row-at, row-flows, row-early, row-full, row-good, row-most}
 use Rattle.sound.proofs.link_rows_sound.Statement.{statement}

@@ -6,7 +6,8 @@ use borrow.Author.Needs.{needs}
 use Rattle.room.specs.Layout.{linksOf}
 use Rattle.room.specs.Sound.{rowsSound}
 use Rattle.room.proofs.Laws.Folds.{Passing, passing-none, passing-more, passing-done, every-false}
-use Rattle.sound.proofs.Laws.Rows.{refuted, held, a-link}
+use Rattle.kinds.proofs.Laws.{refuted, held}
+use Rattle.sound.proofs.Laws.Rows.{a-link}
 use Rattle.sound.proofs.rows_sound.Statement.{statement}
 use Rattle.sound.proofs.rows_sound.Tie as tie
 

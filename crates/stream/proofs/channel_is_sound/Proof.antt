@@ -1,7 +1,5 @@
 -- `stream::channel_is_sound` meets its contract: part by part. Assumes nothing.
-use mathlib.Core.Path.{sym, _∙_}
-use borrow.Author.Tests.{not-true, not-false}
-use Rattle.kinds.proofs.Laws.{fails, passes}
+use Rattle.kinds.proofs.Laws.{held, fails, passes}
 use Rattle.stream.proofs.Laws.{sized}
 use borrow.Author.Needs.{needs}
 use Rattle.stream.proofs.channel_is_sound.Statement.{statement}
@@ -11,31 +9,31 @@ channel-fits-requires : tie.Need-channel-fits-requires
 channel-fits-requires c κs = search needs
 
 returns : tie.Need-returns
-returns c = fails _ _ (sym (c .before .channel-fits .ensures) ∙ not-true _ (c .if1 .taken))
+returns c = fails (c .before .channel-fits .ensures) _ (c .if1 .taken)
 
 places-fit-requires : tie.Need-places-fit-requires
 places-fit-requires c κs =
     let s = c .before .before .before in
-    let z = sized (s .args .store .now) (s .args .c) (sym (c .before .channel-fits .ensures) ∙ not-false _ (c .if1 .left)) in
+    let z = sized (s .args .store .now) (s .args .c) (held (c .before .channel-fits .ensures) (c .if1 .left)) in
     (s .pre .0, (s .pre .1 .1, z .most))
 
 returns-2 : tie.Need-returns-2
 returns-2 c =
     let i = c .before .before in
-    passes _ _ _ (sym (i .before .channel-fits .ensures) ∙ not-false _ (i .if1 .left)) (fails _ _ (sym (c .before .places-fit .ensures) ∙ not-true _ (c .if2 .taken)))
+    passes (i .before .channel-fits .ensures) (i .if1 .left) (fails (c .before .places-fit .ensures) _ (c .if2 .taken))
 
 messages-fit-requires : tie.Need-messages-fit-requires
 messages-fit-requires c κs =
     let s = c .before .before .before .before .before in
     let i = c .before .before in
-    let z = sized (s .args .store .now) (s .args .c) (sym (i .before .channel-fits .ensures) ∙ not-false _ (i .if1 .left)) in
+    let z = sized (s .args .store .now) (s .args .c) (held (i .before .channel-fits .ensures) (i .if1 .left)) in
     (s .pre .0, (s .pre .1 .1, (z .packets, (z .least, z .most))))
 
 returns-3 : tie.Need-returns-3
 returns-3 c =
     let k = c .before in
     let i = k .before .before in
-    passes _ _ _ (sym (i .before .channel-fits .ensures) ∙ not-false _ (i .if1 .left)) (passes _ _ _ (sym (k .before .places-fit .ensures) ∙ not-false _ (k .if2 .left)) (c .messages-fit .ensures))
+    passes (i .before .channel-fits .ensures) (i .if1 .left) (passes (k .before .places-fit .ensures) (k .if2 .left) (c .messages-fit .ensures))
 
 pub channel-is-sound-spec : {M : Type 1} → statement M
 channel-is-sound-spec =

@@ -1,8 +1,8 @@
 -- `stream::in_order` meets its contract: the messages passed are in order, so those left decide. Assumes nothing.
 use mathlib.Core.Path.{refl, sym, _∙_}
 use native.Mathlib.Omega.{arith}
-use borrow.Author.Tests.{not-true, not-false}
 use borrow.Author.Needs.{needs}
+use Rattle.kinds.proofs.Laws.{refuted, held}
 use Rattle.stream.proofs.Laws.{Ordering, ordering-delivered, ordering-lost, ordering-broken, ordering-more, ordering-end, sent-delivered}
 use Rattle.stream.proofs.in_order.Statement.{statement}
 use Rattle.stream.proofs.in_order.Tie as tie
@@ -55,7 +55,7 @@ returns-3 c =
     let z = c .before .before in
     let i = z .before in
     let e = i .before in
-    ordering-broken _ _ _ _ _ _ _ (e .before .before .loop .inv) (e .end .ensures) (e .before .loop-test .taken) (z .if2 .left) (i .if1 .left) (sym (c .before .follows .ensures) ∙ not-true _ (c .if3 .taken))
+    ordering-broken _ _ _ _ _ _ _ (e .before .before .loop .inv) (e .end .ensures) (e .before .loop-test .taken) (z .if2 .left) (i .if1 .left) (refuted (c .before .follows .ensures) (c .if3 .taken))
 
 sub-n : tie.Need-sub-n Inv-loop μ-loop
 sub-n c = omega (arith, c .before .before .if2 .left)
@@ -71,7 +71,7 @@ loop-again c =
     let z = c .before .before in
     let i = z .before in
     let e = i .before in
-    ordering-more _ _ _ _ _ _ _ (e .before .before .loop .inv) (e .end .ensures) (e .before .loop-test .taken) (z .if2 .left) (i .if1 .left) (sym (c .before .follows .ensures) ∙ not-false _ (c .if3 .left))
+    ordering-more _ _ _ _ _ _ _ (e .before .before .loop .inv) (e .end .ensures) (e .before .loop-test .taken) (z .if2 .left) (i .if1 .left) (held (c .before .follows .ensures) (c .if3 .left))
 
 end-requires-2 : tie.Need-end-requires-2 Inv-loop μ-loop
 end-requires-2 c κs = search needs
