@@ -4,8 +4,8 @@ use mathlib.Core.Path.{_≡_, refl, sym, _∙_}
 use mathlib.Core.Bool.{Bool, true, false, _&&_, not, and-eq-true-iff}
 use lib.Dec.{leb, eqb}
 use borrow.Author.Tests.{le-leb, leb-true, eqb-false, ne-eqb, not-true, not-false}
-use Rattle.kinds.specs.Ranges.{within, mostNode, mostHorizon, mostBuffer, mostC, mostP, mostD, mostB, inRangeNode, inRangeHorizon, inRangeBuffer}
-use Rattle.kinds.specs.Ranges.{inRangeC, inRangeP, inRangeD, inRangeB, inRangeHops}
+use Rattle.kinds.specs.Ranges.{within, mostNode, mostHorizon, mostBuffer, mostC, mostP, mostD, mostB, inRangeNode, inRangeHorizon}
+use Rattle.kinds.specs.Ranges.{inRangeC, inRangeP, inRangeD, inRangeHops}
 use Rattle.kinds.specs.Checks.{linkPasses, channelPasses, newLink, newChannel, newRoute}
 use Rattle.kinds.specs.declared.Link.{Link}
 use Rattle.kinds.specs.declared.Channel.{Channel}

@@ -3,13 +3,10 @@ use Prim.Native.Nat.{ℕ}
 use mathlib.Core.Bool.{Bool, true, false, _&&_, not}
 use lib.Dec.{eqb}
 use Rattle.kinds.specs.Ranges.{inRangeNode, inRangeHorizon, inRangeBuffer, inRangeC, inRangeP, inRangeD, inRangeB, inRangeHops}
-use Rattle.kinds.specs.declared.Link.{Link}
 use Rattle.kinds.specs.declared.CheckedLink.{CheckedLink}
 use Rattle.kinds.specs.declared.CheckedLink.the-variants as link
-use Rattle.kinds.specs.declared.Channel.{Channel}
 use Rattle.kinds.specs.declared.CheckedChannel.{CheckedChannel}
 use Rattle.kinds.specs.declared.CheckedChannel.the-variants as channel
-use Rattle.kinds.specs.declared.Route.{Route}
 use Rattle.kinds.specs.declared.CheckedRoute.{CheckedRoute}
 use Rattle.kinds.specs.declared.CheckedRoute.the-variants as route
 

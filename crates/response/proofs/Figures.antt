@@ -1,6 +1,5 @@
 -- Document 01, "Figures to hold against it", the one on responses: rows (1, 4, 2), (2, 6, 3), new C 3, lowest place.
 -- Computed from the definitions. Assumes nothing.
-use Prim.Native.Nat.{ℕ}
 use mathlib.Core.Path.{_≡_, refl}
 use mathlib.Core.List.{List, [], _∷_, map}
 use Rattle.response.specs.declared.Row.{Row}

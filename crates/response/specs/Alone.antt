@@ -1,11 +1,10 @@
 -- Document 01, "Numbers given back on a refusal", number 18: the response-time calculation by itself.
 use Prim.Native.Nat.{ℕ}
-use mathlib.Core.List.{List, [], _∷_}
+use mathlib.Core.List.{List}
 use mathlib.Core.Bool.{Bool, true, false, _&&_}
 use lib.ListN.{length}
 use Rattle.kinds.specs.Ranges.{inRangeC, inRangeP, inRangeRows}
 use Rattle.response.specs.declared.Row.{Row}
-use Rattle.response.specs.declared.Answer.{Answer}
 use Rattle.response.specs.declared.Answer.the-variants.{Found, Nothing}
 use Rattle.response.specs.declared.Reply.{Reply}
 use Rattle.response.specs.declared.Reply.the-variants.{Answered, Refused}

@@ -1,7 +1,6 @@
 -- Going through the numbers below n: whether a test holds of each, of some, where it first fails, and a sum.
 use Prim.Native.Nat.{ℕ, zero, suc, _+_}
 use mathlib.Core.Bool.{Bool, true, false, _&&_, _||_}
-use lib.Dec.{ltb}
 
 -- f holds of each
 unfoldable pub every : (ℕ → Bool) → ℕ → Bool

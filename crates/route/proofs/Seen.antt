@@ -1,19 +1,17 @@
 -- A loop that marks the links it has seen: a link is marked exactly if it stands at a place passed. Assumes nothing.
-use Prim.Native.Nat.{ℕ, zero, suc, _+_, _≤_, _<_}
+use Prim.Native.Nat.{ℕ, zero, suc, _+_, _<_}
 use mathlib.Core.Path.{_≡_, refl, sym, ap, _∙_}
-use mathlib.Core.Bool.{Bool, true, false, not}
+use mathlib.Core.Bool.{true, false, not}
 use mathlib.Core.List.{List}
 use native.Mathlib.Decide.{ℕ-discrete}
 use native.Mathlib.Numerals.{add-one}
 use native.Mathlib.Omega.{arith}
-use lib.Dec.{eqb}
 use lib.ListN.{length, getD, set, replicate, length-set}
 use lib.Seq.{getD-set-same, getD-set-other}
-use borrow.Author.Tests.{eq-eqb, ne-eqb, eqb-true}
+use borrow.Author.Tests.{eq-eqb, ne-eqb}
 use Rattle.kinds.specs.Ranges.{mostLinks}
-use Rattle.room.specs.Folds.{every, firstNot}
 use Rattle.room.specs.Route.{differs, isNew}
-use Rattle.room.proofs.Laws.Folds.{below, every-false, every-true, Passing, passing-none, passing-more, passing-first}
+use Rattle.room.proofs.Laws.Folds.{below, every-false, every-true, Passing, passing-none, passing-more}
 
 -- link l stands at place `at`, one of the first j
 pub record Stood (route : ℕ → ℕ) (j l : ℕ) : Type 0 where

@@ -1,8 +1,7 @@
 -- The loops over a channel's places and messages, and the tests as the code makes them. Assumes nothing.
 use Prim.Native.Nat.{ℕ, zero, suc, _+_, _-_, _*_, _≤_, _<_}
 use mathlib.Core.Path.{_≡_, refl, sym, ap, _∙_}
-use mathlib.Core.Bool.{Bool, true, false, _&&_, _||_, and-eq-true-iff}
-use native.Mathlib.Numerals.{add-one}
+use mathlib.Core.Bool.{Bool, true, false, _&&_, and-eq-true-iff}
 use native.Mathlib.Omega.{arith}
 use native.Mathlib.Decide.{decLe}
 use native.Mathlib.Nat.{mul-le-mul}
@@ -23,7 +22,7 @@ use Rattle.room.specs.Route.{from, exists, isNew, joins, routePasses}
 use Rattle.room.specs.Amounts.{acceptedOf, deliveredOf, enteredOf}
 use Rattle.room.specs.Sound.{channelFits, placeFits, delivered, follows, inOrder, messagesFit}
 use Rattle.room.proofs.Laws.Folds.{every-false, Passing, passing-none, passing-more, passing-done, first-less, first-all, first-test}
-use Rattle.room.proofs.Laws.Amounts.{entered-first, entered-later}
+use Rattle.room.proofs.Laws.Amounts.{entered-later}
 
 -- Checks 3, 4 and 5 of the route that starts at place `at`.
 module _ (w : Store) (c n at : ℕ) (start : at ≡ routeStart c) where

@@ -8,10 +8,9 @@ use lib.ListN.{length}
 use borrow.Author.Tests.{leb-true}
 use Rattle.kinds.specs.Ranges.{inRangeC, inRangeP, inRangeRows, mostC, mostP, mostRows}
 use Rattle.kinds.proofs.Laws.{within-true}
-use Rattle.response.specs.declared.Row.{Row}
 use Rattle.response.specs.declared.Reply.the-variants.{Answered}
 use Rattle.response.specs.Trials.{response}
-use Rattle.response.specs.Numbers.{rowsOf, wholeRows, rowsInRange, Workable}
+use Rattle.response.specs.Numbers.{rowsOf, wholeRows, Workable}
 use Rattle.response.specs.Alone.{askable, askableOn, refused18, alone, aloneOn}
 use Rattle.response.proofs.Laws.Numbers.{rows-count}
 

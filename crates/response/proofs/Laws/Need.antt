@@ -1,5 +1,5 @@
 -- Laws of `ceil`, `work`, `need` and `start`. Assumes nothing.
-use Prim.Native.Nat.{ℕ, zero, suc, _+_, _-_, _*_, _/_, _≤_, _<_}
+use Prim.Native.Nat.{ℕ, zero, suc, _+_, _-_, _*_, _≤_, _<_}
 use mathlib.Core.Path.{_≡_, refl}
 use mathlib.Core.List.{List, [], _∷_}
 use native.Mathlib.Nat.{div-lt-iff-lt-mul, lt-div-mul-add, mul-le-mul-left, le-trans}

@@ -14,7 +14,7 @@ use Rattle.response.specs.declared.Answer.{Answer}
 use Rattle.response.specs.declared.Answer.the-variants.{Found, Nothing}
 use Rattle.response.specs.Need.{need, start, Spaced}
 use Rattle.response.specs.Trials.{lengthAfter, tried, response}
-use Rattle.response.specs.Right.{Least, NoneWithin, Trials, Equal, Right, HasResponse}
+use Rattle.response.specs.Right.{Least, NoneWithin, Right, HasResponse}
 use Rattle.response.proofs.Laws.Need.{need-mono, start-need, own-start}
 
 -- The three ways on from length r after k trials.

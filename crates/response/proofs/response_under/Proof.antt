@@ -1,7 +1,6 @@
 -- `response::response_under` meets its contract: each turn is one trial, and the answer is what is left to try.
 -- Assumes nothing.
-use Prim.Native.Nat.{ℕ, suc, _-_, _≤_}
-use mathlib.Core.Path.{_≡_, sym, _∙_}
+use Prim.Native.Nat.{suc, _-_}
 use native.Mathlib.Omega.{arith}
 use borrow.Author.Needs.{needs}
 use Rattle.response.specs.Need.{need, start, Spaced}

@@ -1,12 +1,12 @@
 -- Reading after writing: what was written is read, any other number is as before, and the length stays. A field is a place,
 -- so these three laws serve every field; that two places differ is linear arithmetic. Assumes nothing.
-use Prim.Native.Nat.{ℕ, _+_, _≤_, _<_}
+use Prim.Native.Nat.{ℕ, _+_, _<_}
 use mathlib.Core.Path.{_≡_}
 use native.Mathlib.Omega.{arith}
 use lib.ListN.{length, length-set}
 use lib.Seq.{getD-set-same, getD-set-other}
 use Rattle.kinds.specs.Ranges.{mostLinks, mostChannels}
-use Rattle.room.specs.Layout.{Store, Long, storeLength, numberAt, withNumber, linkAt, channelAt}
+use Rattle.room.specs.Layout.{Store, Long, numberAt, withNumber, linkAt, channelAt}
 
 module _ (w : Store) (at n : ℕ) where
   pub written : at < length w → numberAt (withNumber w at n) at ≡ n

@@ -1,24 +1,23 @@
 -- The parts of soundness as facts, each in both directions: what a test that holds gives, and what is enough for it to hold.
 -- Assumes nothing.
-use Prim.Native.Nat.{ℕ, zero, suc, _+_, _-_, _*_, _≤_, _<_}
+use Prim.Native.Nat.{ℕ, zero, suc, _-_, _*_, _≤_, _<_}
 use mathlib.Core.Path.{_≡_, refl}
-use mathlib.Core.Bool.{Bool, true, false, _&&_, _||_, not, and-eq-true-iff}
+use mathlib.Core.Bool.{Bool, true, false, _&&_, _||_, and-eq-true-iff}
 use mathlib.Core.Logic.{_⊎_, inl, inr}
-use native.Mathlib.Nat.{le-trans}
 use native.Mathlib.Omega.{arith}
 use lib.Dec.{eqb, leb, ltb}
 use lib.ListN.{length}
 use borrow.Author.Tests.{le-leb, leb-true, lt-ltb, ltb-true, eq-eqb, eqb-true, ne-eqb, eqb-false, not-true}
-use Rattle.kinds.specs.Ranges.{mostLinks, mostHorizon, mostChannels, mostRows, mostHops, mostC, mostP, mostB, endSlot, mostNumber}
-use Rattle.kinds.specs.Ranges.{inRangeLinks, inRangeChannels, inRangeRows, inRangeHops, isSlot, isNumber, within}
+use Rattle.kinds.specs.Ranges.{mostLinks, mostChannels, mostRows, mostHops, endSlot, mostNumber}
+use Rattle.kinds.specs.Ranges.{inRangeLinks, inRangeChannels, inRangeHops, isNumber, within}
 use Rattle.kinds.specs.Checks.{linkPasses, channelPasses}
 use Rattle.kinds.proofs.Laws.{within-true, true-within, GoodLink, link-bounds, bounds-link, GoodChannel, channel-bounds, bounds-channel}
 use Rattle.room.specs.Layout.{Store, Long, storeLength, ring, linksOf, channelsOf, clockOf, fromOf, toOf, horizonOf, bufferOf, rowsOf}
 use Rattle.room.specs.Layout.{rowChannelOf, rowPlaceOf, cOf, pOf, dOf, bOf, hopsOf, messagesOf, routeOf, delayOf, sentOf, timeOf}
-use Rattle.room.specs.Folds.{every, some, sumTo}
+use Rattle.room.specs.Folds.{every, sumTo}
 use Rattle.room.specs.Route.{exists, differs, isNew, joins, routePasses}
-use Rattle.room.specs.Amounts.{acceptedOf, enteredOf, heldOf, reservedOf}
-use Rattle.room.specs.Sound.{longEnough, countsFit, linkFits, channelFits, placeFits, messagesFit, channelSound, inOrder, rowStands, rowDelayOf, rowFollows}
+use Rattle.room.specs.Amounts.{acceptedOf, enteredOf, heldOf}
+use Rattle.room.specs.Sound.{longEnough, countsFit, linkFits, channelFits, placeFits, channelSound, inOrder, rowStands, rowDelayOf, rowFollows}
 use Rattle.room.specs.Sound.{rowReservedOf, rowHolds, rowSound, rowsSound, rowIs, listed, allListed, soundOf}
 use Rattle.room.specs.Ranged.{Ranged, Fit}
 use Rattle.room.proofs.Laws.Folds.{every-at, every-true, some-at, some-true}

@@ -1,8 +1,8 @@
+-- `route::entered` meets its contract, by whether the place is the first. Assumes nothing.
 use native.Mathlib.Omega.{arith}
 use Rattle.route.proofs.Laws.{end-is}
--- `route::entered` meets its contract, by whether the place is the first. Assumes nothing.
 use mathlib.Core.Path.{sym, _∙_}
-use Rattle.room.proofs.Laws.Amounts.{entered-first, entered-later}
+use Rattle.room.proofs.Laws.Amounts.{entered-later}
 use borrow.Author.Needs.{needs}
 use Rattle.route.proofs.entered.Statement.{statement}
 use Rattle.route.proofs.entered.Tie as tie

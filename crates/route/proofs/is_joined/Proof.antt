@@ -1,10 +1,10 @@
+-- `route::is_joined` meets its contract, by whether the place is the first. Assumes nothing.
 use Prim.Native.Nat.{_+_, _-_}
 use native.Mathlib.Omega.{arith}
 use Rattle.route.proofs.Laws.{link-bound, joined}
--- `route::is_joined` meets its contract, by whether the place is the first. Assumes nothing.
-use mathlib.Core.Path.{sym, _∙_}
+use mathlib.Core.Path.{sym}
 use Rattle.room.specs.Route.{from}
-use Rattle.room.proofs.Laws.Amounts.{joins-first, joins-later}
+use Rattle.room.proofs.Laws.Amounts.{joins-first}
 use borrow.Author.Needs.{needs}
 use Rattle.route.proofs.is_joined.Statement.{statement}
 use Rattle.route.proofs.is_joined.Tie as tie
@@ -35,16 +35,23 @@ shared-slice-read-before c = search needs
 
 from-requires : tie.Need-from-requires
 from-requires c κs =
-    let s = c .before .before .before .before .before in
-    (s .pre .0, link-bound (s .args .store .now) (from (s .args .numbers .now) (s .args .at)) (s .args .j + 1) (s .pre .1 .1 .0) (s .pre .1 .1 .1) (s .args .j) (omega arith))
+    let s = c .before .before .before .before .before in (
+      s .pre .0,
+      link-bound (s .args .store .now) (from (s .args .numbers .now) (s .args .at)) (s .args .j + 1) (s .pre .1 .1 .0)
+          (s .pre .1 .1 .1) (s .args .j) (omega arith),
+    )
 
 to-requires : tie.Need-to-requires
 to-requires c κs =
-    let s = c .before .before .before .before .before .before in
-    (s .pre .0, link-bound (s .args .store .now) (from (s .args .numbers .now) (s .args .at)) (s .args .j + 1) (s .pre .1 .1 .0) (s .pre .1 .1 .1) (s .args .j - 1) (omega arith))
+    let s = c .before .before .before .before .before .before in (
+      s .pre .0,
+      link-bound (s .args .store .now) (from (s .args .numbers .now) (s .args .at)) (s .args .j + 1) (s .pre .1 .1 .0)
+          (s .pre .1 .1 .1) (s .args .j - 1) (omega arith),
+    )
 
 returns-2 : tie.Need-returns-2
-returns-2 c = joined _ _ _ (omega (arith, c .before .before .before .before .if1 .left)) _ _ (c .before .from .ensures) (c .to .ensures)
+returns-2 c =
+    joined _ _ _ (omega (arith, c .before .before .before .before .if1 .left)) _ _ (c .before .from .ensures) (c .to .ensures)
 
 pub is-joined-spec : {M : Type 1} → statement M
 is-joined-spec =

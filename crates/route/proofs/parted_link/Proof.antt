@@ -1,7 +1,6 @@
 -- `route::parted_link` meets its contract: the links passed start where the one before ends. Assumes nothing.
 use Prim.Native.Nat.{_-_}
 use native.Mathlib.Omega.{arith}
-use borrow.Author.Needs.{needs}
 use Rattle.kinds.proofs.Laws.{refuted, held}
 use Rattle.room.proofs.Laws.Folds.{Passing, passing-none, passing-more, passing-first, passing-end, every-front}
 use Rattle.room.specs.Route.{from, joins}

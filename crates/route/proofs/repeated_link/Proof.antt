@@ -41,7 +41,8 @@ array-read-if1 c =
 returns : tie.Need-returns Inv-loop μ-loop
 returns c =
     let t = c .before .before in
-    passing-first _ _ _ (t .before .loop .inv .passing) (t .loop-test .taken) (seeing-again _ _ _ _ (t .before .loop .inv) (c .if1 .taken))
+    passing-first _ _ _ (t .before .loop .inv .passing) (t .loop-test .taken)
+    (seeing-again _ _ _ _ (t .before .loop .inv) (c .if1 .taken))
 
 mul-seen : tie.Need-mul-seen Inv-loop μ-loop
 mul-seen c =

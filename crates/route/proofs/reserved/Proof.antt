@@ -120,7 +120,8 @@ returns-2 : tie.Need-returns-2
 returns-2 c =
     let a = c .before .before in
     let r = a .before .before in
-    reserved-on-later _ _ _ (omega (arith, r .before .if1 .left)) _ _ _ _ _ _ (r .route .ensures) (a .before .horizon .ensures) (a .delay .ensures) (c .before .delay2 .ensures) (c .p .ensures) (r .before .before .c .ensures)
+    reserved-on-later _ _ _ (omega (arith, r .before .if1 .left)) _ _ _ _ _ _ (r .route .ensures) (a .before .horizon .ensures)
+    (a .delay .ensures) (c .before .delay2 .ensures) (c .p .ensures) (r .before .before .c .ensures)
 
 pub reserved-spec : {M : Type 1} → statement M
 reserved-spec =

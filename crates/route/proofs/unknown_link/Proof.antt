@@ -1,5 +1,5 @@
-use Rattle.route.proofs.Laws.{unknown, known}
 -- `route::unknown_link` meets its contract: the links passed exist. Assumes nothing.
+use Rattle.route.proofs.Laws.{unknown, known}
 use Prim.Native.Nat.{_-_}
 use native.Mathlib.Omega.{arith}
 use borrow.Author.Needs.{needs}
@@ -32,7 +32,8 @@ shared-slice-read-if1 c = omega arith
 returns : tie.Need-returns Inv-loop μ-loop
 returns c =
     let t = c .before .before in
-    passing-first _ _ _ (t .before .loop .inv) (t .loop-test .taken) (unknown (t .before .before .before .before .before .args .store .now) _ _ (t .before .before .links .ensures) (c .if1 .taken))
+    passing-first _ _ _ (t .before .loop .inv) (t .loop-test .taken) (unknown
+    (t .before .before .before .before .before .args .store .now) _ _ (t .before .before .links .ensures) (c .if1 .taken))
 
 add-j : tie.Need-add-j Inv-loop μ-loop
 add-j c = omega arith
@@ -43,7 +44,8 @@ loop-less c = omega arith
 loop-again : tie.Need-loop-again Inv-loop μ-loop
 loop-again c =
     let t = c .before .before in
-    passing-more _ _ _ (t .before .loop .inv) (t .loop-test .taken) (known (t .before .before .before .before .before .args .store .now) _ _ (t .before .before .links .ensures) (c .if1 .left))
+    passing-more _ _ _ (t .before .loop .inv) (t .loop-test .taken)
+    (known (t .before .before .before .before .before .args .store .now) _ _ (t .before .before .links .ensures) (c .if1 .left))
 
 returns-2 : tie.Need-returns-2 Inv-loop μ-loop
 returns-2 c = passing-end _ _ _ (c .before .loop .inv) (c .loop-test .left)

@@ -1,13 +1,12 @@
 -- Set-up leaves a sound store, whatever the lent numbers were. Assumes nothing.
-use Prim.Native.Nat.{ℕ, zero, _≤_, _<_}
+use Prim.Native.Nat.{ℕ, _≤_, _<_}
 use mathlib.Core.Path.{_≡_}
 use mathlib.Core.Bool.{true}
 use mathlib.Core.List.{List}
 use native.Mathlib.Omega.{arith}
 use Rattle.kinds.specs.Ranges.{mostLinks}
 use Rattle.kinds.proofs.Laws.{link-bounds}
-use Rattle.room.specs.Layout.{Store, linksOf, channelsOf, fromOf, toOf, horizonOf, bufferOf, rowsOf}
-use Rattle.room.specs.Folds.{sumTo}
+use Rattle.room.specs.Layout.{Store, linksOf, fromOf, toOf, horizonOf, bufferOf, rowsOf}
 use Rattle.room.specs.Sound.{rowReservedOf, soundOf}
 use Rattle.room.proofs.Laws.Folds.{sum-none}
 use Rattle.room.proofs.Laws.Sound.{Counts, LinkIs, RowsAre, Sound, is-sound}

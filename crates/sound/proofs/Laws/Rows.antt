@@ -1,10 +1,10 @@
 -- A link's and a row's tests on the numbers that the code has read. Assumes nothing.
 use Prim.Native.Nat.{ℕ, _≤_, _<_}
 use mathlib.Core.Path.{_≡_, sym, _∙_}
-use mathlib.Core.Bool.{Bool, true, false, _&&_, not}
+use mathlib.Core.Bool.{Bool, true, false}
 use native.Mathlib.Omega.{arith}
 use lib.Dec.{eqb, ltb}
-use borrow.Author.Tests.{not-true, not-false, lt-ltb, le-ltb, eq-eqb, ne-eqb}
+use borrow.Author.Tests.{lt-ltb, le-ltb, eq-eqb, ne-eqb}
 use Rattle.kinds.specs.Ranges.{mostLinks, mostRows, mostChannels, mostHops, inRangeRows}
 use Rattle.kinds.specs.Checks.{newLink}
 use Rattle.kinds.specs.declared.Link.{Link}

@@ -1,6 +1,5 @@
 -- `stream::channel_fits` meets its contract: what a constructor answers says whether its check holds. Assumes nothing.
 use mathlib.Core.Path.{sym, _∙_}
-use native.Mathlib.Omega.{arith}
 use Rattle.stream.proofs.Laws.{numbers-pass, numbers-fail, hops-most, hops-pass, hops-fail}
 use borrow.Author.Needs.{needs}
 use Rattle.stream.proofs.channel_fits.Statement.{statement}
@@ -32,7 +31,8 @@ returns c =
     let s = c .before .before .before .before .before .before .before .before in
     let n = c .before .before in
     let b = n .before in
-    numbers-fail (s .args .store .now) (s .args .c) _ _ _ _ (b .before .before .before .c .ensures) (b .before .before .p .ensures) (b .before .d .ensures) (b .b .ensures) (sym (n .new .ensures) ∙ c .enum-told2 .given .1)
+    numbers-fail (s .args .store .now) (s .args .c) _ _ _ _ (b .before .before .before .c .ensures)
+    (b .before .before .p .ensures) (b .before .d .ensures) (b .b .ensures) (sym (n .new .ensures) ∙ c .enum-told2 .given .1)
 
 hops-requires : tie.Need-hops-requires
 hops-requires c κs = search needs
@@ -54,7 +54,8 @@ returns-2 c =
     let t = h .before in
     let n = t .before .before in
     let b = n .before in
-    let one = numbers-pass (s .args .store .now) (s .args .c) _ _ _ _ (b .before .before .before .c .ensures) (b .before .before .p .ensures) (b .before .d .ensures) (b .b .ensures) (sym (n .new .ensures) ∙ t .enum-told .given .1) in
+    let one = numbers-pass (s .args .store .now) (s .args .c) _ _ _ _ (b .before .before .before .c .ensures)
+    (b .before .before .p .ensures) (b .before .d .ensures) (b .b .ensures) (sym (n .new .ensures) ∙ t .enum-told .given .1) in
     hops-fail (s .args .store .now) (s .args .c) _ (h .hops .ensures) one (sym (m .new2 .ensures) ∙ c .enum-told4 .given .1)
 
 route-passes-requires : tie.Need-route-passes-requires
@@ -73,8 +74,10 @@ returns-3 c =
     let t = h .before in
     let n = t .before .before in
     let b = n .before in
-    let one = numbers-pass (s .args .store .now) (s .args .c) _ _ _ _ (b .before .before .before .c .ensures) (b .before .before .p .ensures) (b .before .d .ensures) (b .b .ensures) (sym (n .new .ensures) ∙ t .enum-told .given .1) in
-    hops-pass (s .args .store .now) (s .args .c) _ (h .hops .ensures) one (sym (m .new2 .ensures) ∙ k .enum-told3 .given .1) _ (c .route-passes .ensures)
+    let one = numbers-pass (s .args .store .now) (s .args .c) _ _ _ _ (b .before .before .before .c .ensures)
+    (b .before .before .p .ensures) (b .before .d .ensures) (b .b .ensures) (sym (n .new .ensures) ∙ t .enum-told .given .1) in
+    hops-pass (s .args .store .now) (s .args .c) _ (h .hops .ensures) one (sym (m .new2 .ensures) ∙ k .enum-told3 .given .1) _
+    (c .route-passes .ensures)
 
 pub channel-fits-spec : {M : Type 1} → statement M
 channel-fits-spec =

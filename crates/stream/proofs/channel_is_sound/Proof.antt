@@ -33,7 +33,8 @@ returns-3 : tie.Need-returns-3
 returns-3 c =
     let k = c .before in
     let i = k .before .before in
-    passes (i .before .channel-fits .ensures) (i .if1 .left) (passes (k .before .places-fit .ensures) (k .if2 .left) (c .messages-fit .ensures))
+    passes (i .before .channel-fits .ensures) (i .if1 .left)
+    (passes (k .before .places-fit .ensures) (k .if2 .left) (c .messages-fit .ensures))
 
 pub channel-is-sound-spec : {M : Type 1} → statement M
 channel-is-sound-spec =

@@ -16,7 +16,8 @@ end-requires-2 c κs = search needs
 returns : tie.Need-returns
 returns c =
     let s = c .before .before .before .before in
-    follows-empty (s .args .store .now) (s .args .c) _ _ _ (c .before .before .end .ensures) (c .before .end2 .ensures) (c .if1 .taken)
+    follows-empty (s .args .store .now) (s .args .c) _ _ _ (c .before .before .end .ensures) (c .before .end2 .ensures)
+    (c .if1 .taken)
 
 sub-if2 : tie.Need-sub-if2
 sub-if2 c = search needs
@@ -29,7 +30,8 @@ returns-2 c =
     let s = c .before .before .before .before .before .before in
     let i = c .before .before in
     let e = i .before in
-    follows-long (s .args .store .now) (s .args .c) _ _ _ (e .before .end .ensures) (e .end2 .ensures) _ (c .before .c .ensures) (i .if1 .left) (c .if2 .taken)
+    follows-long (s .args .store .now) (s .args .c) _ _ _ (e .before .end .ensures) (e .end2 .ensures) _ (c .before .c .ensures)
+    (i .if1 .left) (c .if2 .taken)
 
 returns-3 : tie.Need-returns-3
 returns-3 c =
@@ -37,7 +39,8 @@ returns-3 c =
     let k = c .before .before in
     let i = k .before in
     let e = i .before in
-    follows-delivered (s .args .store .now) (s .args .c) _ _ _ (e .before .end .ensures) (e .end2 .ensures) _ _ (k .c .ensures) (s .pre .1 .1 .1) (i .if1 .left) (c .before .if2 .left) (c .if3 .taken)
+    follows-delivered (s .args .store .now) (s .args .c) _ _ _ (e .before .end .ensures) (e .end2 .ensures) _ _ (k .c .ensures)
+    (s .pre .1 .1 .1) (i .if1 .left) (c .before .if2 .left) (c .if3 .taken)
 
 is-apart-requires : tie.Need-is-apart-requires
 is-apart-requires c κs = search needs
@@ -49,7 +52,8 @@ returns-4 c =
     let k = t .before .before in
     let i = k .before in
     let e = i .before in
-    follows-apart (s .args .store .now) (s .args .c) _ _ _ (e .before .end .ensures) (e .end2 .ensures) _ _ (k .c .ensures) (s .pre .1 .1 .1) (i .if1 .left) (t .before .if2 .left) (t .if3 .left) _ (c .is-apart .ensures)
+    follows-apart (s .args .store .now) (s .args .c) _ _ _ (e .before .end .ensures) (e .end2 .ensures) _ _ (k .c .ensures)
+    (s .pre .1 .1 .1) (i .if1 .left) (t .before .if2 .left) (t .if3 .left) _ (c .is-apart .ensures)
 
 pub follows-spec : {M : Type 1} → statement M
 follows-spec =

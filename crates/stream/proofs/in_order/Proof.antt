@@ -1,5 +1,5 @@
 -- `stream::in_order` meets its contract: the messages passed are in order, so those left decide. Assumes nothing.
-use mathlib.Core.Path.{refl, sym, _∙_}
+use mathlib.Core.Path.{refl}
 use native.Mathlib.Omega.{arith}
 use borrow.Author.Needs.{needs}
 use Rattle.kinds.proofs.Laws.{refuted, held}
@@ -25,7 +25,13 @@ sent-requires c κs = search needs
 loop-holds : tie.Need-loop-holds Inv-loop μ-loop
 loop-holds c =
     let s = c .before .before .before in
-    record { sent-is = sent-delivered (s .args .store .now) (s .args .c) _ _ (c .before .hops .ensures) (c .sent .ensures); small = s .pre .1 .1 .0; few = omega arith; same = refl }
+    record {
+      sent-is = sent-delivered (s .args .store .now) (s .args .c) _ _ (c .before .hops .ensures)
+          (c .sent .ensures);
+      small = s .pre .1 .1 .0;
+      few = omega arith;
+      same = refl;
+    }
 
 end-requires : tie.Need-end-requires Inv-loop μ-loop
 end-requires c κs = search needs
@@ -39,7 +45,8 @@ returns-2 : tie.Need-returns-2 Inv-loop μ-loop
 returns-2 c =
     let i = c .before in
     let e = i .before in
-    ordering-lost _ _ _ _ _ _ _ (e .before .before .loop .inv) (e .end .ensures) (e .before .loop-test .taken) (c .if2 .taken) (i .if1 .left)
+    ordering-lost _ _ _ _ _ _ _ (e .before .before .loop .inv) (e .end .ensures) (e .before .loop-test .taken) (c .if2 .taken)
+    (i .if1 .left)
 
 sub-follows : tie.Need-sub-follows Inv-loop μ-loop
 sub-follows c = omega (arith, c .if2 .left)
@@ -55,7 +62,8 @@ returns-3 c =
     let z = c .before .before in
     let i = z .before in
     let e = i .before in
-    ordering-broken _ _ _ _ _ _ _ (e .before .before .loop .inv) (e .end .ensures) (e .before .loop-test .taken) (z .if2 .left) (i .if1 .left) (refuted (c .before .follows .ensures) (c .if3 .taken))
+    ordering-broken _ _ _ _ _ _ _ (e .before .before .loop .inv) (e .end .ensures) (e .before .loop-test .taken) (z .if2 .left)
+    (i .if1 .left) (refuted (c .before .follows .ensures) (c .if3 .taken))
 
 sub-n : tie.Need-sub-n Inv-loop μ-loop
 sub-n c = omega (arith, c .before .before .if2 .left)
@@ -71,7 +79,8 @@ loop-again c =
     let z = c .before .before in
     let i = z .before in
     let e = i .before in
-    ordering-more _ _ _ _ _ _ _ (e .before .before .loop .inv) (e .end .ensures) (e .before .loop-test .taken) (z .if2 .left) (i .if1 .left) (held (c .before .follows .ensures) (c .if3 .left))
+    ordering-more _ _ _ _ _ _ _ (e .before .before .loop .inv) (e .end .ensures) (e .before .loop-test .taken) (z .if2 .left)
+    (i .if1 .left) (held (c .before .follows .ensures) (c .if3 .left))
 
 end-requires-2 : tie.Need-end-requires-2 Inv-loop μ-loop
 end-requires-2 c κs = search needs

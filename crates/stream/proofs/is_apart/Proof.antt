@@ -17,7 +17,9 @@ time-requires-2 : tie.Need-time-requires-2
 time-requires-2 c κs = search needs
 
 returns : tie.Need-returns
-returns c = rw (← c .time2 .ensures, ← c .before .before .time .ensures, ← c .before .before .before .p .ensures) (apart _ _ _ (c .before .if1 .taken))
+returns c =
+    rw (← c .time2 .ensures, ← c .before .before .time .ensures, ← c .before .before .before .p .ensures)
+    (apart _ _ _ (c .before .if1 .taken))
 
 returns-2 : tie.Need-returns-2
 returns-2 c = rw (← c .before .time .ensures, ← c .before .before .p .ensures) (not-apart _ _ _ (c .if1 .left))

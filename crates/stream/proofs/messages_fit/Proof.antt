@@ -29,7 +29,8 @@ returns-2 c =
     let t = c .before .before in
     let i = t .before in
     let n = i .before in
-    too-late (s .args .store .now) (s .args .c) _ (n .before .messages .ensures) _ (t .time .ensures) (held (n .is-number .ensures) (i .if1 .left)) (refuted (c .before .is-number2 .ensures) (c .if2 .taken))
+    too-late (s .args .store .now) (s .args .c) _ (n .before .messages .ensures) _ (t .time .ensures)
+    (held (n .is-number .ensures) (i .if1 .left)) (refuted (c .before .is-number2 .ensures) (c .if2 .taken))
 
 end-requires : tie.Need-end-requires
 end-requires c κs = search needs
@@ -42,7 +43,8 @@ mul-if3 c =
     let s = c .before .before .before .before .before .before .before .before .before in
     let i = c .before .before .before .before .before in
     let n = i .before in
-    total-fits (s .args .store .now) (s .args .c) _ (n .before .messages .ensures) _ (c .c .ensures) (s .pre .1 .1 .0) (few (s .args .store .now) (s .args .c) _ (n .before .messages .ensures) (held (n .is-number .ensures) (i .if1 .left)))
+    total-fits (s .args .store .now) (s .args .c) _ (n .before .messages .ensures) _ (c .c .ensures) (s .pre .1 .1 .0)
+    (few (s .args .store .now) (s .args .c) _ (n .before .messages .ensures) (held (n .is-number .ensures) (i .if1 .left)))
 
 returns-3 : tie.Need-returns-3
 returns-3 c =
@@ -52,14 +54,25 @@ returns-3 c =
     let t = j .before .before in
     let i = t .before in
     let n = i .before in
-    too-much (s .args .store .now) (s .args .c) _ (n .before .messages .ensures) _ (t .time .ensures) (held (n .is-number .ensures) (i .if1 .left)) _ _ (k .before .end .ensures) (k .c .ensures) (held (j .before .is-number2 .ensures) (j .if2 .left)) (c .if3 .taken)
+    too-much (s .args .store .now) (s .args .c) _ (n .before .messages .ensures) _ (t .time .ensures)
+    (held (n .is-number .ensures) (i .if1 .left)) _ _ (k .before .end .ensures) (k .c .ensures)
+    (held (j .before .is-number2 .ensures) (j .if2 .left)) (c .if3 .taken)
 
 in-order-requires : tie.Need-in-order-requires
 in-order-requires c κs =
     let s = c .before .before .before .before .before .before .before .before .before .before in
     let i = c .before .before .before .before .before .before in
-    let n = i .before in
-    (s .pre .0, (s .pre .1 .0, (few (s .args .store .now) (s .args .c) _ (n .before .messages .ensures) (held (n .is-number .ensures) (i .if1 .left)), (s .pre .1 .1 .1 .0, s .pre .1 .1 .1 .1))))
+    let n = i .before in (
+      s .pre .0,
+      (
+        s .pre .1 .0,
+        (
+          few (s .args .store .now) (s .args .c) _ (n .before .messages .ensures)
+              (held (n .is-number .ensures) (i .if1 .left)),
+          (s .pre .1 .1 .1 .0, s .pre .1 .1 .1 .1),
+        ),
+      ),
+    )
 
 returns-4 : tie.Need-returns-4
 returns-4 c =
@@ -70,7 +83,9 @@ returns-4 c =
     let t = j .before .before in
     let i = t .before in
     let n = i .before in
-    ordered (s .args .store .now) (s .args .c) _ (n .before .messages .ensures) _ (t .time .ensures) (held (n .is-number .ensures) (i .if1 .left)) _ _ (k .before .end .ensures) (k .c .ensures) (held (j .before .is-number2 .ensures) (j .if2 .left)) (q .if3 .left) _ (c .in-order .ensures)
+    ordered (s .args .store .now) (s .args .c) _ (n .before .messages .ensures) _ (t .time .ensures)
+    (held (n .is-number .ensures) (i .if1 .left)) _ _ (k .before .end .ensures) (k .c .ensures)
+    (held (j .before .is-number2 .ensures) (j .if2 .left)) (q .if3 .left) _ (c .in-order .ensures)
 
 pub messages-fit-spec : {M : Type 1} → statement M
 messages-fit-spec =

@@ -54,7 +54,8 @@ returns-3 c =
     let i = k .before in
     let d = i .before in
     let t = d .before in
-    placing-over _ _ _ _ _ _ (t .before .loop .inv) (t .loop-test .taken) _ _ (d .delay .ensures) (i .if1 .left) (k .if2 .left) (s .sent .ensures) (c .if3 .taken)
+    placing-over _ _ _ _ _ _ (t .before .loop .inv) (t .loop-test .taken) _ _ (d .delay .ensures) (i .if1 .left) (k .if2 .left)
+    (s .sent .ensures) (c .if3 .taken)
 
 add-j : tie.Need-add-j Inv-loop μ-loop
 add-j c = omega arith
@@ -69,7 +70,8 @@ loop-again c =
     let i = k .before in
     let d = i .before in
     let t = d .before in
-    placing-more _ _ _ _ _ _ (t .before .loop .inv) (t .loop-test .taken) _ _ (d .delay .ensures) (i .if1 .left) (k .if2 .left) (s .sent .ensures) (c .if3 .left)
+    placing-more _ _ _ _ _ _ (t .before .loop .inv) (t .loop-test .taken) _ _ (d .delay .ensures) (i .if1 .left) (k .if2 .left)
+    (s .sent .ensures) (c .if3 .left)
 
 returns-4 : tie.Need-returns-4 Inv-loop μ-loop
 returns-4 c = placing-done _ _ _ _ _ _ (c .before .loop .inv) (c .loop-test .left)

@@ -17,7 +17,8 @@ returns : tie.Need-returns
 returns c =
     let s = c .before .before .before .before in
     let u = c .before in
-    route-unknown (s .args .store .now) (s .args .c) _ _ (u .before .route-start .ensures) _ (u .unknown-link .ensures) (c .if1 .taken)
+    route-unknown (s .args .store .now) (s .args .c) _ _ (u .before .route-start .ensures) _ (u .unknown-link .ensures)
+    (c .if1 .taken)
 
 repeated-link-requires : tie.Need-repeated-link-requires
 repeated-link-requires c κs =
@@ -34,13 +35,23 @@ returns-2 c =
     let v = c .before in
     let i = v .before in
     let u = i .before in
-    route-repeats (s .args .store .now) (s .args .c) _ _ (u .before .route-start .ensures) _ _ (u .unknown-link .ensures) (i .if1 .left) (v .repeated-link .ensures) (c .if2 .taken)
+    route-repeats (s .args .store .now) (s .args .c) _ _ (u .before .route-start .ensures) _ _ (u .unknown-link .ensures)
+    (i .if1 .left) (v .repeated-link .ensures) (c .if2 .taken)
 
 parted-link-requires : tie.Need-parted-link-requires
 parted-link-requires c κs =
     let s = c .before .before .before .before .before .before in
-    let u = c .before .before .before in
-    (s .pre .0, (omega arith, (s .pre .1 .0, route-known (s .args .store .now) (s .args .c) _ _ (u .before .route-start .ensures) _ (u .unknown-link .ensures) (c .before .before .if1 .left))))
+    let u = c .before .before .before in (
+      s .pre .0,
+      (
+        omega arith,
+        (
+          s .pre .1 .0,
+          route-known (s .args .store .now) (s .args .c) _ _
+              (u .before .route-start .ensures) _ (u .unknown-link .ensures) (c .before .before .if1 .left),
+        ),
+      ),
+    )
 
 returns-3 : tie.Need-returns-3
 returns-3 c =
@@ -48,7 +59,8 @@ returns-3 c =
     let v = c .before .before in
     let i = v .before in
     let u = i .before in
-    route-joins (s .args .store .now) (s .args .c) _ _ (u .before .route-start .ensures) _ _ _ (u .unknown-link .ensures) (i .if1 .left) (v .repeated-link .ensures) (c .before .if2 .left) (c .parted-link .ensures)
+    route-joins (s .args .store .now) (s .args .c) _ _ (u .before .route-start .ensures) _ _ _ (u .unknown-link .ensures)
+    (i .if1 .left) (v .repeated-link .ensures) (c .before .if2 .left) (c .parted-link .ensures)
 
 pub route-passes-spec : {M : Type 1} → statement M
 route-passes-spec =

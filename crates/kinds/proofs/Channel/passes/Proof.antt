@@ -1,3 +1,4 @@
+-- `kinds::Channel::passes` meets its contract: test by test. Assumes nothing.
 use Rattle.kinds.proofs.Laws.{stops, goes}
 use borrow.Author.Needs.{needs}
 use Rattle.kinds.proofs.Channel.passes.Statement.{statement}
@@ -20,13 +21,15 @@ returns c =
     let d = c .before in
     let b = d .before .before in
     let a = b .before .before in
-    goes _ _ _ _ (a .before .c-in-range .ensures) (a .if1 .taken) (goes _ _ _ _ (b .before .p-in-range .ensures) (b .if2 .taken) (goes _ _ _ _ (d .before .d-in-range .ensures) (d .if3 .taken) (c .b-in-range .ensures)))
+    goes _ _ _ _ (a .before .c-in-range .ensures) (a .if1 .taken) (goes _ _ _ _ (b .before .p-in-range .ensures) (b .if2 .taken)
+    (goes _ _ _ _ (d .before .d-in-range .ensures) (d .if3 .taken) (c .b-in-range .ensures)))
 
 returns-2 : tie.Need-returns-2
 returns-2 c =
     let b = c .before .before in
     let a = b .before .before in
-    goes _ _ _ _ (a .before .c-in-range .ensures) (a .if1 .taken) (goes _ _ _ _ (b .before .p-in-range .ensures) (b .if2 .taken) (stops _ _ _ (c .before .d-in-range .ensures) (c .if3 .left)))
+    goes _ _ _ _ (a .before .c-in-range .ensures) (a .if1 .taken)
+    (goes _ _ _ _ (b .before .p-in-range .ensures) (b .if2 .taken) (stops _ _ _ (c .before .d-in-range .ensures) (c .if3 .left)))
 
 returns-3 : tie.Need-returns-3
 returns-3 c =

@@ -1,3 +1,4 @@
+-- `kinds::Link::passes` meets its contract: test by test. Assumes nothing.
 use mathlib.Core.Path.{refl, ap}
 use mathlib.Core.Bool.{not}
 use borrow.Author.Tests.{le-leb, lt-leb, ne-eqb, eq-eqb}
@@ -6,16 +7,27 @@ use Rattle.kinds.proofs.Link.passes.Statement.{statement}
 use Rattle.kinds.proofs.Link.passes.Tie as tie
 
 returns : tie.Need-returns
-returns c = goes _ _ _ _ refl (le-leb _ _ (c .before .before .before .before .if1 .taken)) (goes _ _ _ _ refl (le-leb _ _ (c .before .before .before .if2 .taken)) (goes _ _ _ _ refl (ap not (ne-eqb _ _ (c .before .before .if3 .taken))) (goes _ _ _ _ refl (le-leb _ _ (c .before .if4 .taken)) (goes _ _ _ _ refl (le-leb _ _ (c .if5 .taken)) (refl)))))
+returns c =
+    goes _ _ _ _ refl (le-leb _ _ (c .before .before .before .before .if1 .taken)) (goes _ _ _ _ refl (le-leb _ _
+    (c .before .before .before .if2 .taken)) (goes _ _ _ _ refl (ap not (ne-eqb _ _ (c .before .before .if3 .taken)))
+    (goes _ _ _ _ refl (le-leb _ _ (c .before .if4 .taken)) (goes _ _ _ _ refl (le-leb _ _ (c .if5 .taken)) (refl)))))
 
 returns-2 : tie.Need-returns-2
-returns-2 c = goes _ _ _ _ refl (le-leb _ _ (c .before .before .before .before .if1 .taken)) (goes _ _ _ _ refl (le-leb _ _ (c .before .before .before .if2 .taken)) (goes _ _ _ _ refl (ap not (ne-eqb _ _ (c .before .before .if3 .taken))) (goes _ _ _ _ refl (le-leb _ _ (c .before .if4 .taken)) (stops _ _ _ refl (lt-leb _ _ (c .if5 .left))))))
+returns-2 c =
+    goes _ _ _ _ refl (le-leb _ _ (c .before .before .before .before .if1 .taken)) (goes _ _ _ _ refl (le-leb _ _
+    (c .before .before .before .if2 .taken)) (goes _ _ _ _ refl (ap not (ne-eqb _ _ (c .before .before .if3 .taken)))
+    (goes _ _ _ _ refl (le-leb _ _ (c .before .if4 .taken)) (stops _ _ _ refl (lt-leb _ _ (c .if5 .left))))))
 
 returns-3 : tie.Need-returns-3
-returns-3 c = goes _ _ _ _ refl (le-leb _ _ (c .before .before .before .if1 .taken)) (goes _ _ _ _ refl (le-leb _ _ (c .before .before .if2 .taken)) (goes _ _ _ _ refl (ap not (ne-eqb _ _ (c .before .if3 .taken))) (stops _ _ _ refl (lt-leb _ _ (c .if4 .left)))))
+returns-3 c =
+    goes _ _ _ _ refl (le-leb _ _ (c .before .before .before .if1 .taken)) (goes _ _ _ _ refl
+    (le-leb _ _ (c .before .before .if2 .taken))
+    (goes _ _ _ _ refl (ap not (ne-eqb _ _ (c .before .if3 .taken))) (stops _ _ _ refl (lt-leb _ _ (c .if4 .left)))))
 
 returns-4 : tie.Need-returns-4
-returns-4 c = goes _ _ _ _ refl (le-leb _ _ (c .before .before .if1 .taken)) (goes _ _ _ _ refl (le-leb _ _ (c .before .if2 .taken)) (stops _ _ _ refl (ap not (eq-eqb _ _ (c .if3 .left)))))
+returns-4 c =
+    goes _ _ _ _ refl (le-leb _ _ (c .before .before .if1 .taken))
+    (goes _ _ _ _ refl (le-leb _ _ (c .before .if2 .taken)) (stops _ _ _ refl (ap not (eq-eqb _ _ (c .if3 .left)))))
 
 returns-5 : tie.Need-returns-5
 returns-5 c = goes _ _ _ _ refl (le-leb _ _ (c .before .if1 .taken)) (stops _ _ _ refl (lt-leb _ _ (c .if2 .left)))
