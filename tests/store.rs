@@ -433,18 +433,17 @@ fn listing() -> Room {
     }
 }
 
-fn damaged(file: &str) {
-    let mut store = vec![0; STORE];
-    listing().write(&mut store);
+// What the program prints of one store.
+fn damages(store: &mut [u64]) -> String {
     let verdict = |store: &[u64]| if broken(store).0.is_empty() { " +" } else { " -" };
-    let mut right = format!("sound{}\n", verdict(&store));
+    let mut right = format!("sound{}\n", verdict(store));
     let mut matter = 0;
     for at in 0..STORE {
         let value = store[at];
         let mut line = format!("{at} {value}");
         for other in [value + 1, value.saturating_sub(1), 0, u64::MAX] {
             store[at] = other;
-            line += verdict(&store);
+            line += verdict(store);
         }
         store[at] = value;
         if line.contains('-') {
@@ -453,7 +452,15 @@ fn damaged(file: &str) {
             right += "\n";
         }
     }
-    right += &format!("numbers that matter {matter}\n");
+    right + &format!("numbers that matter {matter}\n")
+}
+
+fn damaged(file: &str) {
+    let mut store = vec![0; STORE];
+    set_up(&mut store, &[0, 1, 0, 64, 1, 2, 0, 64]);
+    let mut right = damages(&mut store);
+    listing().write(&mut store);
+    right += &damages(&mut store);
     let printed = std::fs::read_to_string(file).unwrap_or_else(|e| fail(format!("{file}: {e}")));
     if let Some((a, b)) = printed.lines().zip(right.lines()).find(|(a, b)| a != b) {
         fail(format!("{file} has '{a}' where '{b}' is right"));
@@ -461,7 +468,7 @@ fn damaged(file: &str) {
     if printed != right {
         fail(format!("{file} has {} lines where {} are right", printed.lines().count(), right.lines().count()));
     }
-    println!("store: {} damages of a sound store, as printed", 4 * STORE);
+    println!("store: {} damages of two sound stores, as printed", 8 * STORE);
 }
 
 fn main() {

@@ -1,6 +1,7 @@
-// A sound store, damaged one number at a time. The room is that of document 01's listing after three slots. For every
-// number of the store whose value matters a line is printed: its place, its value, and whether the store is still sound (+)
-// or not (-) with one more, with one less, with 0 and with the largest number there. tests/store.rs works each line out again.
+// Sound stores, damaged one number at a time: that of document 01's listing just set up, and the same three slots on. For
+// every number of the store whose value matters a line is printed: its place, its value, and whether the store is still
+// sound (+) or not (-) with one more, with one less, with 0 and with the largest number there. tests/store.rs works each line
+// out again.
 use libc::STDOUT_FILENO;
 use room::channel;
 use room::head;
@@ -105,9 +106,8 @@ fn put_messages(store: &mut [u64])
     put_message(store, 1, 1, 0, 3);
 }
 
-// The room of the listing, its four messages offered, three slots on.
+// From the links of the listing to its channels, four offers made, three slots on.
 fn fill(store: &mut [u64]) {
-    let _answer = setup::set_up(store, &[0, 1, 0, 64, 1, 2, 0, 64]);
     if store.len() < room::LENGTH {
         return;
     }
@@ -187,14 +187,20 @@ fn damage_all(store: &mut [u64]) -> u64 {
     matter
 }
 
-fn main() {
-    let mut store = [0u64; 65536];
-    fill(&mut store);
+fn show(store: &mut [u64]) {
     print(b"sound");
-    print_verdict(sound::is_sound(&store));
+    print_verdict(sound::is_sound(store));
     print(b"\n");
-    let matter = damage_all(&mut store);
+    let matter = damage_all(store);
     print(b"numbers that matter ");
     print_number(matter);
     print(b"\n");
+}
+
+fn main() {
+    let mut store = [0u64; 65536];
+    let _answer = setup::set_up(&mut store, &[0, 1, 0, 64, 1, 2, 0, 64]);
+    show(&mut store);
+    fill(&mut store);
+    show(&mut store);
 }
