@@ -4,9 +4,6 @@ pub mod head; // head.rt: how many links and channels there are, and the clock
 pub mod link; // link.rt: a link's record
 pub mod channel; // channel.rt: a channel's record
 
-ghost use mathlib.Core.Path.{_≡_};
-ghost use Rattle.room.specs.Layout.{storeLength};
-
 // How many numbers the store has, the same for every network.
 pub const LENGTH: usize = 65_536;
 
@@ -17,5 +14,8 @@ const LINKS: usize = 96;
 
 const CHANNELS: usize = 1_632;
 
-// How many messages of a channel are kept.
+// How many messages of a channel are kept, and how many of them may be undelivered: one fewer, since a message's packets
+// are counted from the end of the one before it.
 const RING: u64 = 24;
+
+pub const UNDELIVERED: u64 = 23;

@@ -120,7 +120,7 @@ fn follows(store: &[u64], c: usize, n: u64, sent: u64) -> bool
     is_apart(store, c, n)
 }
 
-// Whether messages are in order, from message `last` back to one that is delivered, 23 before it at most.
+// Whether messages are in order, from message `last` back to one that is delivered.
 fn in_order(store: &[u64], c: usize, last: u64) -> bool
     requires { ⌜ Long (now store) ⌝ }
     requires { ⌜ c < mostChannels ⌝ }
@@ -131,7 +131,7 @@ fn in_order(store: &[u64], c: usize, last: u64) -> bool
 {
     let sent = channel::sent(store, c, channel::hops(store, c) - 1);
     let mut n = last;
-    let mut left: u64 = 23;
+    let mut left = room::UNDELIVERED;
     while left > 0 {
         if channel::end(store, c, n) <= sent {
             return true;
