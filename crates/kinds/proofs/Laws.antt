@@ -2,6 +2,7 @@
 use Prim.Native.Nat.{ℕ, _≤_}
 use mathlib.Core.Path.{_≡_, refl, sym, _∙_}
 use mathlib.Core.Bool.{Bool, true, false, _&&_, not, and-eq-true-iff}
+use native.Mathlib.Omega.{arith}
 use lib.Dec.{leb, eqb}
 use borrow.Author.Tests.{le-leb, leb-true, eqb-false, ne-eqb, not-true, not-false}
 use Rattle.kinds.specs.Ranges.{within, mostNode, mostHorizon, mostBuffer, mostC, mostP, mostD, mostB, inRangeNode, inRangeHorizon}
@@ -21,6 +22,15 @@ within-true least most n e =
 
 pub true-within : (least most n : ℕ) → least ≤ n → n ≤ most → within least most n ≡ true
 true-within least most n l m = rw (le-leb least n l, le-leb n most m)
+
+-- a test that cannot be true, or false
+pub never : (t : Bool) → (t ≡ true → ⊥) → t ≡ false
+never true h = absurd (h refl)
+never false h = refl
+
+pub always : (t : Bool) → (t ≡ false → ⊥) → t ≡ true
+always true h = refl
+always false h = absurd (h refl)
 
 -- How code goes through a chain of tests: it stops at one that is false, and goes on past one that is true.
 pub stops : (r a b : Bool) → r ≡ a → r ≡ false → r ≡ (a && b)
@@ -89,18 +99,10 @@ module _ (from to horizon buffer : ℕ) where
 
   -- and what an answer says of the check
   pub good-link : {x : Link} → newLink from to horizon buffer ≡ link.Good x → linkPasses from to horizon buffer ≡ true
-  good-link e = go (linkPasses from to horizon buffer) refl
-    where
-      go : (t : Bool) → linkPasses from to horizon buffer ≡ t → linkPasses from to horizon buffer ≡ true
-      go true h = h
-      go false h = cc (link-refused h)
+  good-link e = always _ (λ f. let z : _≡_ {A = ℕ} 0 1 = cc (link-refused f) in omega arith)
 
   pub refused-link : {n : ℕ} → newLink from to horizon buffer ≡ link.Refused n → linkPasses from to horizon buffer ≡ false
-  refused-link e = go (linkPasses from to horizon buffer) refl
-    where
-      go : (t : Bool) → linkPasses from to horizon buffer ≡ t → linkPasses from to horizon buffer ≡ false
-      go true h = cc (link-good h)
-      go false h = h
+  refused-link e = never _ (λ f. let z : _≡_ {A = ℕ} 0 1 = cc (link-good f) in omega arith)
 
 -- "its channels pass 1", as bounds
 pub record GoodChannel (c p d b : ℕ) : Type 0 where
@@ -149,18 +151,10 @@ module _ (c p d b : ℕ) where
 
   -- and what an answer says of the check
   pub good-channel : {x : Channel} → newChannel c p d b ≡ channel.Good x → channelPasses c p d b ≡ true
-  good-channel e = go (channelPasses c p d b) refl
-    where
-      go : (t : Bool) → channelPasses c p d b ≡ t → channelPasses c p d b ≡ true
-      go true h = h
-      go false h = cc (channel-refused h)
+  good-channel e = always _ (λ f. let z : _≡_ {A = ℕ} 0 1 = cc (channel-refused f) in omega arith)
 
   pub refused-channel : {n : ℕ} → newChannel c p d b ≡ channel.Refused n → channelPasses c p d b ≡ false
-  refused-channel e = go (channelPasses c p d b) refl
-    where
-      go : (t : Bool) → channelPasses c p d b ≡ t → channelPasses c p d b ≡ false
-      go true h = cc (channel-good h)
-      go false h = h
+  refused-channel e = never _ (λ f. let z : _≡_ {A = ℕ} 0 1 = cc (channel-good f) in omega arith)
 
 module _ (hops : ℕ) where
   pub route-good : inRangeHops hops ≡ true → route.Good (record { hops = hops }) ≡ newRoute hops
@@ -173,15 +167,7 @@ module _ (hops : ℕ) where
 
   -- and what an answer says of the check
   pub good-route : {x : Route} → newRoute hops ≡ route.Good x → inRangeHops hops ≡ true
-  good-route e = go (inRangeHops hops) refl
-    where
-      go : (t : Bool) → inRangeHops hops ≡ t → inRangeHops hops ≡ true
-      go true h = h
-      go false h = cc (route-refused h)
+  good-route e = always _ (λ f. let z : _≡_ {A = ℕ} 0 1 = cc (route-refused f) in omega arith)
 
   pub refused-route : {n : ℕ} → newRoute hops ≡ route.Refused n → inRangeHops hops ≡ false
-  refused-route e = go (inRangeHops hops) refl
-    where
-      go : (t : Bool) → inRangeHops hops ≡ t → inRangeHops hops ≡ false
-      go true h = cc (route-good h)
-      go false h = h
+  refused-route e = never _ (λ f. let z : _≡_ {A = ℕ} 0 1 = cc (route-good f) in omega arith)

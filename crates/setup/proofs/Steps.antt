@@ -1,8 +1,8 @@
--- How the steps of the code meet the definitions: the check of a link, the search for a bad one, the two loops that write
+-- How the steps of the code meet the definitions: the check of a link, a bad one, the two loops that write
 -- (with their invariants, `Clearing` and `Putting`), and the ends of set-up. Assumes nothing.
 use Prim.Native.Nat.{ℕ, _+_, _*_, _≤_, _<_}
 use mathlib.Core.Path.{_≡_, refl, sym, _∙_, ap}
-use mathlib.Core.Bool.{Bool, true, false}
+use mathlib.Core.Bool.{true, false}
 use mathlib.Core.List.{List, _++_}
 use native.Mathlib.Numerals.{add-one}
 use native.Mathlib.Omega.{arith}
@@ -10,14 +10,14 @@ use lib.ListN.{length, replicate, drop, set, length-set}
 use borrow.Author.Fill.{fill-none, fill-more}
 use borrow.Author.Tests.{le-leb, lt-leb}
 use Rattle.kinds.specs.Ranges.{inRangeLinks}
-use Rattle.kinds.specs.Checks.{linkPasses, newLink}
+use Rattle.kinds.specs.Checks.{newLink}
 use Rattle.kinds.specs.declared.Link.{Link}
 use Rattle.kinds.specs.declared.CheckedLink.{CheckedLink}
 use Rattle.kinds.specs.declared.CheckedLink.the-variants as link
-use Rattle.kinds.proofs.Laws.{link-good, link-refused}
-use Rattle.room.specs.Folds.{every, firstNot}
+use Rattle.kinds.proofs.Laws.{good-link as link-passes, refused-link as link-fails}
+use Rattle.room.specs.Folds.{firstNot}
 use Rattle.room.specs.Layout.{Store, Long, storeLength, withLinks, withFrom, withTo, withHorizon, withBuffer}
-use Rattle.room.proofs.Laws.Folds.{first-end, first-below}
+use Rattle.room.proofs.Laws.Folds.{first-less, first-all}
 use Rattle.setup.specs.declared.SetUp.{SetUp}
 use Rattle.setup.specs.declared.SetUp.the-variants.{Ready, Refused}
 use Rattle.setup.specs.SetUp.{linksIn, fromIn, toIn, horizonIn, bufferIn, linkPassesAt, linksPass, zeroed, linkWritten, linksWritten}
@@ -28,21 +28,6 @@ use Rattle.setup.proofs.Laws.Answer.{Accepted, refused-count, refused-l
 use Rattle.setup.proofs.Laws.Answer.{ready-store, refused-store}
 
 -- whether a link passes: it is a part of one, or the constructor says
-module _ (from to horizon buffer : ℕ) where
-  good-passes : (x : Link) → link.Good x ≡ newLink from to horizon buffer → linkPasses from to horizon buffer ≡ true
-  good-passes x e = go (linkPasses from to horizon buffer) refl
-    where
-      go : (b : Bool) → linkPasses from to horizon buffer ≡ b → linkPasses from to horizon buffer ≡ true
-      go true p = p
-      go false p = absurd (let z : _≡_ {A = ℕ} 0 1 = cc (link-refused from to horizon buffer p) in omega arith)
-
-  refused-fails : (n : ℕ) → link.Refused n ≡ newLink from to horizon buffer → linkPasses from to horizon buffer ≡ false
-  refused-fails n e = go (linkPasses from to horizon buffer) refl
-    where
-      go : (b : Bool) → linkPasses from to horizon buffer ≡ b → linkPasses from to horizon buffer ≡ false
-      go true p = absurd (let z : _≡_ {A = ℕ} 0 1 = cc (link-good from to horizon buffer p) in omega arith)
-      go false p = p
-
 module _ (numbers : List ℕ) (l : ℕ) where
   pub part-at : length numbers < 4 * l + 4 → false ≡ linkPassesAt numbers l
   unfolding linkPassesAt
@@ -53,33 +38,19 @@ module _ (numbers : List ℕ) (l : ℕ) where
 
   module _ (r : CheckedLink) (h : 4 * l + 4 ≤ length numbers) (e : r ≡ made) where
     pub good-at : (x : Link) → r ≡ link.Good x → true ≡ linkPassesAt numbers l
-    good-at x g = sym (at-passes numbers l h (good-passes _ _ _ _ x (sym g ∙ e)))
+    good-at x g = sym (at-passes numbers l h (link-passes _ _ _ _ (sym e ∙ g)))
 
     pub refused-at : (n : ℕ) → r ≡ link.Refused n → false ≡ linkPassesAt numbers l
     unfolding linkPassesAt
-    refused-at n g = rw (le-leb _ _ h) (sym (refused-fails _ _ _ _ n (sym g ∙ e)))
+    refused-at n g = rw (le-leb _ _ h) (sym (link-fails _ _ _ _ (sym e ∙ g)))
 
--- looking for the first link that does not pass, which decides whether all pass
-pub looked-done : (numbers : List ℕ) (n l : ℕ) → (l ≤ n) × (every (linkPassesAt numbers) l ≡ true) → n ≤ l
-    → n ≡ firstNot (linkPassesAt numbers) n
-looked-done numbers n l k h =
-    let e : l ≡ n = omega arith in
-    sym (first-end (linkPassesAt numbers) n (rw e at (k .1)))
-
+-- the first link that does not pass decides whether all pass
 module _ (numbers : List ℕ) (n bad : ℕ) (count : n ≡ linksIn numbers) (first : bad ≡ firstNot (linkPassesAt numbers) n) where
   pub bad-fails : bad < n → linksPass numbers ≡ false
-  bad-fails h = rw count at (go (every (linkPassesAt numbers) n) refl)
-    where
-      go : (b : Bool) → every (linkPassesAt numbers) n ≡ b → every (linkPassesAt numbers) n ≡ false
-      go true e = absurd (omega (arith, first-end (linkPassesAt numbers) n e))
-      go false e = e
+  bad-fails h = rw count at (first-less (linkPassesAt numbers) n bad first h)
 
   pub none-bad : n ≤ bad → linksPass numbers ≡ true
-  none-bad h = rw count at (go (every (linkPassesAt numbers) n) refl)
-    where
-      go : (b : Bool) → every (linkPassesAt numbers) n ≡ b → every (linkPassesAt numbers) n ≡ true
-      go true e = e
-      go false e = absurd (omega (arith, first-below (linkPassesAt numbers) n e))
+  none-bad h = rw count at (first-all (linkPassesAt numbers) n bad first h)
 
 -- clearing: the first `at` numbers are 0, the rest is as it was
 pub record Clearing (w v : Store) (at : ℕ) : Type 0 where

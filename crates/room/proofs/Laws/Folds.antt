@@ -19,7 +19,7 @@ and-false : (a b : Bool) → b ≡ false → (a && b) ≡ false
 and-false true b e = e
 and-false false b e = refl
 
-or-true : (a b : Bool) → b ≡ true → (a || b) ≡ true
+pub or-true : (a b : Bool) → b ≡ true → (a || b) ≡ true
 or-true true b e = refl
 or-true false b e = e
 
@@ -103,10 +103,6 @@ module _ (f : ℕ → Bool) where
       go : (t : Bool) → every f n ≡ t → leb n u ≡ every f n
       go true a = rw a (le-leb n u (omega (arith, first-end n a)))
       go false a = rw a (lt-leb n u (omega (arith, first-below n a)))
-
-  pub some-none : some f 0 ≡ false
-  unfolding some
-  some-none = refl
 
   pub some-true : (n i : ℕ) → i < n → f i ≡ true → some f n ≡ true
   unfolding some

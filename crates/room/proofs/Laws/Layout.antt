@@ -1,12 +1,10 @@
 -- Reading after writing: what was written is read, any other number is as before, and the length stays. A field is a place,
 -- so these three laws serve every field; that two places differ is linear arithmetic. Assumes nothing.
-use Prim.Native.Nat.{ℕ, _+_, _<_}
+use Prim.Native.Nat.{ℕ, _<_}
 use mathlib.Core.Path.{_≡_}
-use native.Mathlib.Omega.{arith}
 use lib.ListN.{length, length-set}
 use lib.Seq.{getD-set-same, getD-set-other}
-use Rattle.kinds.specs.Ranges.{mostLinks, mostChannels}
-use Rattle.room.specs.Layout.{Store, Long, numberAt, withNumber, linkAt, channelAt}
+use Rattle.room.specs.Layout.{Store, Long, numberAt, withNumber}
 
 module _ (w : Store) (at n : ℕ) where
   pub written : at < length w → numberAt (withNumber w at n) at ≡ n
@@ -20,10 +18,3 @@ module _ (w : Store) (at n : ℕ) where
 
   pub stays-long : Long w → Long (withNumber w at n)
   stays-long h = rw as-long h
-
--- every number of a record lies in the store
-pub in-link : (w : Store) (l i : ℕ) → Long w → l < mostLinks → i < 96 → linkAt l + i < length w
-in-link w l i h hl hi = omega arith
-
-pub in-channel : (w : Store) (c i : ℕ) → Long w → c < mostChannels → i < 96 → channelAt c + i < length w
-in-channel w c i h hc hi = omega arith

@@ -20,15 +20,11 @@ use Rattle.room.specs.Amounts.{acceptedOf, enteredOf, heldOf}
 use Rattle.room.specs.Sound.{longEnough, countsFit, linkFits, channelFits, placeFits, channelSound, inOrder, rowStands, rowDelayOf, rowFollows}
 use Rattle.room.specs.Sound.{rowReservedOf, rowHolds, rowSound, rowsSound, rowIs, listed, allListed, soundOf}
 use Rattle.room.specs.Ranged.{Ranged, Fit}
-use Rattle.room.proofs.Laws.Folds.{every-at, every-true, some-at, some-true}
+use Rattle.room.proofs.Laws.Folds.{or-true, every-at, every-true, some-at, some-true}
 
 -- Two tests that both hold.
 both : (a b : Bool) → a ≡ true → b ≡ true → (a && b) ≡ true
 both a b e f = and-eq-true-iff a b .1 (e, f)
-
-or-true : (a b : Bool) → b ≡ true → (a || b) ≡ true
-or-true true b e = refl
-or-true false b e = e
 
 -- "its counts lie within the ranges"
 pub record Counts (w : Store) : Type 0 where

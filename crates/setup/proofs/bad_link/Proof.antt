@@ -1,25 +1,21 @@
 -- `setup::bad_link` meets its contract: every link passed over passes.
 -- Assumes nothing.
-use Prim.Native.Nat.{_-_, _≤_}
-use mathlib.Core.Path.{_≡_, sym, _∙_}
-use mathlib.Core.Bool.{true}
+use Prim.Native.Nat.{_-_}
 use native.Mathlib.Omega.{arith}
-use borrow.Author.Tests.{not-true, not-false}
-use Rattle.room.specs.Folds.{every}
-use Rattle.room.proofs.Laws.Folds.{every-none, every-more, first-at}
-use Rattle.setup.proofs.Steps.{looked-done}
+use Rattle.kinds.proofs.Laws.{refuted, held}
+use Rattle.room.proofs.Laws.Folds.{Passing, passing-none, passing-more, passing-first, passing-end}
 use Rattle.setup.specs.SetUp.{linkPassesAt}
 use Rattle.setup.proofs.bad_link.Statement.{statement}
 use Rattle.setup.proofs.bad_link.Tie as tie
 
 abbrev Inv-loop : tie.InvT-loop
-Inv-loop links n l₀ l = (l ≤ n) × (every (linkPassesAt links) l ≡ true)
+Inv-loop links n l₀ l = Passing (linkPassesAt links) n l
 
 abbrev μ-loop : tie.MeasureT-loop
 μ-loop links n l₀ l = n - l
 
 loop-holds : tie.Need-loop-holds Inv-loop μ-loop
-loop-holds c = (omega arith, every-none _)
+loop-holds c = passing-none _ _
 
 passes-requires : tie.Need-passes-requires Inv-loop μ-loop
 passes-requires c κs = omega arith
@@ -27,8 +23,7 @@ passes-requires c κs = omega arith
 returns : tie.Need-returns Inv-loop μ-loop
 returns c =
     let turn = c .before .before in
-    let bad = sym (c .before .passes .ensures) ∙ not-true _ (c .if1 .taken) in
-    sym (first-at _ _ _ (turn .before .loop .inv .1) bad (turn .loop-test .taken))
+    passing-first _ _ _ (turn .before .loop .inv) (turn .loop-test .taken) (refuted (c .before .passes .ensures) (c .if1 .taken))
 
 add-l : tie.Need-add-l Inv-loop μ-loop
 add-l c = omega arith
@@ -39,11 +34,10 @@ loop-less c = omega arith
 loop-again : tie.Need-loop-again Inv-loop μ-loop
 loop-again c =
     let turn = c .before .before in
-    let good = sym (c .before .passes .ensures) ∙ not-false _ (c .if1 .left) in
-    (omega arith, every-more _ _ (turn .before .loop .inv .1) good)
+    passing-more _ _ _ (turn .before .loop .inv) (turn .loop-test .taken) (held (c .before .passes .ensures) (c .if1 .left))
 
 returns-2 : tie.Need-returns-2 Inv-loop μ-loop
-returns-2 c = looked-done _ _ _ (c .before .loop .inv) (c .loop-test .left)
+returns-2 c = passing-end _ _ _ (c .before .loop .inv) (c .loop-test .left)
 
 pub bad-link-spec : {M : Type 1} → statement M
 bad-link-spec =

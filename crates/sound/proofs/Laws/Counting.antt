@@ -6,13 +6,9 @@ use mathlib.Core.Bool.{Bool, true, false, true≢false, or-false}
 use native.Mathlib.Omega.{arith}
 use lib.Dec.{eqb}
 use borrow.Author.Tests.{eq-eqb, ne-eqb}
+use Rattle.kinds.proofs.Laws.{never}
 use Rattle.room.specs.Folds.{every, some, sumTo}
 use Rattle.room.proofs.Laws.Folds.{below, every-at, some-false, sum-same}
-
--- a test that cannot be true
-pub never : (b : Bool) → (b ≡ true → ⊥) → b ≡ false
-never true h = absurd (h refl)
-never false h = refl
 
 -- 1 for each number of which f holds
 abbrev pub unit : Bool → ℕ

@@ -9,13 +9,14 @@ use native.Mathlib.Omega.{arith}
 use lib.Dec.{eqb}
 use borrow.Author.Tests.{eqb-true, eq-eqb, ne-eqb}
 use Rattle.kinds.specs.Ranges.{mostChannels}
+use Rattle.kinds.proofs.Laws.{never}
 use Rattle.room.specs.Layout.{Store, linksOf, channelsOf, rowsOf, rowChannelOf, rowPlaceOf, hopsOf, routeOf}
 use Rattle.room.specs.Folds.{every, sumTo}
 use Rattle.room.specs.Sound.{rowDelayOf, rowsSound, rowIs, listed, allListed}
 use Rattle.room.specs.Ranged.{Fit}
 use Rattle.room.proofs.Laws.Folds.{below, every-at}
 use Rattle.room.proofs.Laws.Sound.{Before, RowsAre, rows-are, fit-counts, fit-channel}
-use Rattle.sound.proofs.Laws.Counting.{never, count, unit, sum-zero, sum-only, count-some, count-full, count-less}
+use Rattle.sound.proofs.Laws.Counting.{count, unit, sum-zero, sum-only, count-some, count-full, count-less}
 use Rattle.sound.proofs.Laws.Counting.{sums-equal, all-rows}
 
 -- the order of rows as one number that rises
