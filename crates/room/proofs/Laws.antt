@@ -3,3 +3,4 @@ pub mod Layout
 pub mod Folds
 pub mod Amounts
 pub mod Sound
+pub mod Cleared

@@ -1,6 +1,6 @@
 -- The lent store, number by number. docs/STORE.md is this page as a table. Nothing else names a place: the code and the
 -- definitions above read a field by its name and write it by its `with` name.
-use Prim.Native.Nat.{ℕ, _+_, _*_, _%_, _≤_}
+use Prim.Native.Nat.{ℕ, zero, suc, _+_, _*_, _%_, _≤_}
 use mathlib.Core.List.{List}
 use lib.ListN.{length, getD, set}
 
@@ -28,6 +28,9 @@ linkAt l = 96 + 96 * l
 
 abbrev pub channelAt : ℕ → ℕ
 channelAt c = 1_632 + 96 * c
+
+abbrev pub recordLength : ℕ
+recordLength = 96
 
 -- The head: how many links and channels there are, and the clock. Place 3 is spare (a rule of the network).
 abbrev pub linksAt : ℕ
@@ -231,3 +234,8 @@ endOf w c n = numberAt w (endAt c n)
 
 abbrev pub withEnd : Store → (c n : ℕ) → ℕ → Store
 withEnd w c n v = withNumber w (endAt c n) v
+
+-- the first n numbers of channel c's record are 0
+unfoldable pub cleared : Store → (c n : ℕ) → Store
+cleared w c zero = w
+cleared w c (suc i) = withNumber (cleared w c i) (channelAt c + i) 0

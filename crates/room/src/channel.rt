@@ -7,7 +7,21 @@ ghost use Prim.Native.Nat.{_<_};
 ghost use Rattle.kinds.specs.Ranges.{mostChannels, mostHops};
 ghost use Rattle.room.specs.Layout.{Long, routeStart, cOf, withC, pOf, withP, dOf, withD, bOf, withB, hopsOf, withHops};
 ghost use Rattle.room.specs.Layout.{messagesOf, withMessages, routeOf, withRoute, delayOf, withDelay, sentOf};
-ghost use Rattle.room.specs.Layout.{withSent, timeOf, withTime, endOf, withEnd};
+ghost use Rattle.room.specs.Layout.{withSent, timeOf, withTime, endOf, withEnd, cleared, recordLength};
+
+// Every number of its record is 0.
+pub fn clear(store: &mut [u64], c: usize)
+    requires { ⌜ Long (now store) ⌝ }
+    requires { ⌜ c < mostChannels ⌝ }
+    ensures { λ _. ⌜ now (store .exit) ≡ cleared (now (store .entry)) c recordLength ⌝ }
+{
+    let start = CHANNELS + RECORD * c;
+    let mut i: usize = 0;
+    while i < RECORD {
+        store[start + i] = 0;
+        i += 1;
+    }
+}
 
 pub fn c(store: &[u64], c: usize) -> u64
     requires { ⌜ Long (now store) ⌝ }

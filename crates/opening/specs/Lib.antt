@@ -1,0 +1,6 @@
+pub mod Request
+pub mod Search
+pub mod Shares
+pub mod Join
+pub mod Refusal
+pub mod Open
