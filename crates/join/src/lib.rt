@@ -26,7 +26,16 @@ fn put_places(store: &mut [u64], x: usize, route: &[u64], delays: &[u64; 8])
 }
 
 // The record of channel `x`: what was asked for, and the delay on each link.
-pub fn put_channel(store: &mut [u64], x: usize, c: u64, p: u64, d: u64, b: u64, route: &[u64], delays: &[u64; 8])
+pub fn put_channel(
+    store: &mut [u64],
+    x: usize,
+    c: u64,
+    p: u64,
+    d: u64,
+    b: u64,
+    route: &[u64],
+    delays: &[u64; 8],
+)
     requires { ⌜ Long (now store) ⌝ }
     requires { ⌜ x < mostChannels ⌝ }
     requires { ⌜ length (now route) ≤ mostHops ⌝ }
@@ -50,7 +59,13 @@ fn rows_before(store: &[u64], l: usize, d: u64) -> usize
     let rows = link::rows(store, l);
     let mut k: usize = 0;
     while k < rows {
-        if channel::delay(store, link::row_channel(store, l, k), link::row_place(store, l, k)) > d {
+        if channel::delay(
+            store,
+            link::row_channel(store, l, k),
+            link::row_place(store, l, k),
+        )
+            > d
+        {
             return k;
         }
         k += 1;

@@ -55,7 +55,15 @@ pub fn delays(p: u64, d: u64, sum: u64, responses: &[u64; 8], n: usize) -> [u64;
 }
 
 // The packets to be reserved at place `j` of the route.
-fn reserved_at(store: &[u64], c: u64, p: u64, b: u64, route: &[u64], delays: &[u64; 8], j: usize) -> u64
+fn reserved_at(
+    store: &[u64],
+    c: u64,
+    p: u64,
+    b: u64,
+    route: &[u64],
+    delays: &[u64; 8],
+    j: usize,
+) -> u64
     requires { ⌜ Places (now store) p (now route) (now delays) ⌝ }
     requires { ⌜ j < length (now route) ⌝ }
     requires { ⌜ c ≤ mostC ⌝ }
@@ -98,7 +106,11 @@ fn taken(store: &[u64], l: usize) -> u64
     let mut sum: u64 = 0;
     let mut k: usize = 0;
     while k < rows {
-        sum += route::reserved(store, link::row_channel(store, l, k), link::row_place(store, l, k));
+        sum += route::reserved(
+            store,
+            link::row_channel(store, l, k),
+            link::row_place(store, l, k),
+        );
         k += 1;
     }
     sum

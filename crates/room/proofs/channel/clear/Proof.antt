@@ -29,11 +29,11 @@ mul-store c = omega arith
 
 slice-write-store : tie.Need-slice-write-store Inv-loop μ-loop
 slice-write-store c = omega (
-      arith,
-      c .before .before .pre .0,
-      c .before .before .pre .1,
-      clearing-length (c .before .before .args .store .now) (c .before .before .args .c) _ _ (c .before .loop .inv),
-    )
+  arith,
+  c .before .before .pre .0,
+  c .before .before .pre .1,
+  clearing-length (c .before .before .args .store .now) (c .before .before .args .c) _ _ (c .before .loop .inv),
+)
 
 add-i : tie.Need-add-i Inv-loop μ-loop
 add-i c = omega arith
