@@ -17,7 +17,6 @@ use Rattle.opening.specs.Request.{Request}
 use Rattle.opening.specs.Search.{rowsTo, smallest, position, newResponse}
 use Rattle.opening.specs.Shares.{delays, eight}
 use Rattle.opening.specs.Join.{withRow}
-use Rattle.opening.specs.Refusal.{lateRefusal}
 
 -- a store in which link 0 has the rows (c, p, d) and (c′, p′, d′), of channels 0 and 1
 pair : (c p d c′ p′ d′ : ℕ) → Store

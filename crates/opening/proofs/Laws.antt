@@ -1,2 +1,4 @@
 -- Laws of the definitions in specs/, for the crates above.
 pub mod Facts
+pub mod Checks
+pub mod Passed

@@ -1,7 +1,8 @@
 -- Document 01, "Numbers given back on a refusal": the checks of an open, in their order. "Checks run in this order: open 17, 14, 1
 -- to 10"; 17 once more "after all other checks".
-use Prim.Native.Nat.{ℕ, zero, suc, _+_}
+use Prim.Native.Nat.{ℕ, _+_}
 use mathlib.Core.Bool.{Bool, true, false}
+use mathlib.Core.List.{List, [], _∷_, _++_}
 use lib.Dec.{leb, ltb}
 use Rattle.kinds.specs.Ranges.{inRangeHops, mostChannels, mostRows, endSlot}
 use Rattle.kinds.specs.Checks.{channelPasses}
@@ -10,7 +11,7 @@ use Rattle.room.specs.Layout.{Store, channelsOf, clockOf, rowsOf, withChannels}
 use Rattle.room.specs.Route.{exists, isNew, joins}
 use Rattle.room.specs.Sound.{soundOf}
 use Rattle.opening.specs.declared.Outcome.{Outcome}
-use Rattle.opening.specs.declared.Outcome.the-variants.{Accepted, Refused}
+use Rattle.opening.specs.declared.Outcome.the-variants.{Refused}
 use Rattle.opening.specs.Request.{Request, hops, link}
 use Rattle.opening.specs.Search.{responds, responses}
 use Rattle.opening.specs.Shares.{delays, reserved, fitsBuffer}
@@ -31,42 +32,51 @@ unfoldable pub opened : Store → Request → Store
 opened w q =
     withChannels (rowsJoined (channelWritten w (channelsOf w) q (delaysOf w q)) (channelsOf w) (hops q)) (channelsOf w + 1)
 
--- one check: where it holds, what comes after it answers; else the refusal does
-abbrev pub check : (holds : Bool) → (number place : ℕ) → (next : Outcome) → Outcome
-check true number place next = next
-check false number place next = Refused number place
+-- one check: whether it holds, and the number and the place of the refusal where it does not
+pub record Check : Type 0 where
+  pub holds : Bool
+  pub number : ℕ
+  pub place : ℕ
 
--- a check at each place of the route: the refusal's place is the first at which it does not hold
-abbrev pub checkAll : (holds : ℕ → Bool) → (hops number : ℕ) → (next : Outcome) → Outcome
-checkAll holds hops number next = check (every holds hops) number (firstNot holds hops) next
+abbrev pub check : (number : ℕ) → (holds : Bool) → Check
+check number holds = record { holds = holds; number = number; place = 0 }
+
+-- a check at each place of the route; the refusal's place is the first at which it does not hold
+abbrev pub checkAll : (number : ℕ) → (holds : ℕ → Bool) → (hops : ℕ) → Check
+checkAll number holds hops = record { holds = every holds hops; number = number; place = firstNot holds hops }
+
+-- the first failed check answers; where all hold, `passed` does
+unfoldable pub firstFailed : List Check → (passed : Outcome) → Outcome
+firstFailed [] passed = passed
+firstFailed (x ∷ rest) passed =
+    elim (x .holds) [ true ↦ firstFailed rest passed | false ↦ Refused (x .number) (x .place) ]
 
 -- 7: "a link of the route has 32 rows"; here is room for one more
 abbrev pub hasRoom : Store → (route : ℕ → ℕ) → (j : ℕ) → Bool
 hasRoom w route j = ltb (rowsOf w (route j)) mostRows
 
 -- 17, 14 and 1 to 7: what can be said before the search
-unfoldable pub earlyRefusal : Store → Request → (next : Outcome) → Outcome
-earlyRefusal w q next =
-    check (soundOf w) 17 0
-    (check (ltb (clockOf w) endSlot) 14 0
-    (check (channelPasses (q .c) (q .p) (q .d) (q .b)) 1 0
-    (check (inRangeHops (hops q)) 2 0
-    (checkAll (exists w (link q)) (hops q) 3
-    (checkAll (isNew (link q)) (hops q) 4
-    (checkAll (joins w (link q)) (hops q) 5
-    (check (ltb (channelsOf w) mostChannels) 6 0
-    (checkAll (hasRoom w (link q)) (hops q) 7
-    next))))))))
+abbrev pub earlyChecks : Store → Request → List Check
+earlyChecks w q =
+    check 17 (soundOf w)
+    ∷ (check 14 (ltb (clockOf w) endSlot)
+    ∷ (check 1 (channelPasses (q .c) (q .p) (q .d) (q .b))
+    ∷ (check 2 (inRangeHops (hops q))
+    ∷ (checkAll 3 (exists w (link q)) (hops q)
+    ∷ (checkAll 4 (isNew (link q)) (hops q)
+    ∷ (checkAll 5 (joins w (link q)) (hops q)
+    ∷ (check 6 (ltb (channelsOf w) mostChannels)
+    ∷ (checkAll 7 (hasRoom w (link q)) (hops q)
+    ∷ []))))))))
 
 -- 8 to 10, and 17 if "the call would leave one that is not" sound
-unfoldable pub lateRefusal : Store → Request → (next : Outcome) → Outcome
-lateRefusal w q next =
-    checkAll (responds w (q .c) (q .p) (link q)) (hops q) 8
-    (check (leb (sumTo (responsesOf w q) (hops q)) (q .d)) 9 0
-    (checkAll (fitsBuffer w (link q) (reservedFor w q)) (hops q) 10
-    (check (soundOf (opened w q)) 17 0
-    next)))
+abbrev pub lateChecks : Store → Request → List Check
+lateChecks w q =
+    checkAll 8 (responds w (q .c) (q .p) (link q)) (hops q)
+    ∷ (check 9 (leb (sumTo (responsesOf w q) (hops q)) (q .d))
+    ∷ (checkAll 10 (fitsBuffer w (link q) (reservedFor w q)) (hops q)
+    ∷ (check 17 (soundOf (opened w q))
+    ∷ [])))
 
--- all of them: the first failed one answers
-abbrev pub openRefusal : Store → Request → (next : Outcome) → Outcome
-openRefusal w q next = earlyRefusal w q (lateRefusal w q next)
+abbrev pub openRefusal : Store → Request → (passed : Outcome) → Outcome
+openRefusal w q passed = firstFailed (earlyChecks w q ++ lateChecks w q) passed

@@ -1,0 +1,58 @@
+-- A list of checks: the first that fails answers, whatever comes after it. Assumes nothing.
+use Prim.Native.Nat.{ℕ}
+use mathlib.Core.Path.{_≡_, refl}
+use mathlib.Core.Bool.{Bool, true, false}
+use mathlib.Core.List.{List, [], _∷_, _++_}
+use native.Mathlib.Omega.{arith}
+use Rattle.opening.specs.declared.Outcome.{Outcome}
+use Rattle.opening.specs.declared.Outcome.the-variants.{Accepted, Refused}
+use Rattle.opening.specs.Refusal.{Check, firstFailed}
+
+-- all of them hold
+abbrev pub AllHold : List Check → Type 0
+AllHold [] = Unit {0}
+AllHold (x ∷ rest) = (x .holds ≡ true) × AllHold rest
+
+pub failed-append : (front back : List Check) (passed : Outcome)
+    → firstFailed (front ++ back) passed ≡ firstFailed front (firstFailed back passed)
+unfolding firstFailed
+failed-append [] back passed = refl
+failed-append (x ∷ front) back passed = go (x .holds) refl (failed-append front back passed)
+  where
+    go : (t : Bool) → x .holds ≡ t → firstFailed (front ++ back) passed ≡ firstFailed front (firstFailed back passed)
+        → firstFailed ((x ∷ front) ++ back) passed ≡ firstFailed (x ∷ front) (firstFailed back passed)
+    go true h r = rw (h, firstFailed) r
+    go false h r = rw (h, firstFailed)
+
+pub all-passed : (checks : List Check) (passed : Outcome) → AllHold checks → firstFailed checks passed ≡ passed
+unfolding firstFailed
+all-passed [] passed h = refl
+all-passed (x ∷ rest) passed h = rw (h .0, firstFailed) (all-passed rest passed (h .1))
+
+-- those before one that fails hold
+pub fails-at : (front back : List Check) (x : Check) (passed : Outcome) → AllHold front → x .holds ≡ false
+    → firstFailed (front ++ (x ∷ back)) passed ≡ Refused (x .number) (x .place)
+unfolding firstFailed
+fails-at [] back x passed h e = rw (e, firstFailed)
+fails-at (y ∷ front) back x passed h e = rw (h .0, firstFailed) (fails-at front back x passed (h .1) e)
+
+-- what an answer says of the checks
+pub accepted-all : (checks : List Check) (x y : ℕ) → firstFailed checks (Accepted x) ≡ Accepted y → AllHold checks
+unfolding firstFailed
+accepted-all [] x y e = tt
+accepted-all (z ∷ rest) x y e = go (z .holds) refl (accepted-all rest x y)
+  where
+    go : (t : Bool) → z .holds ≡ t → (firstFailed rest (Accepted x) ≡ Accepted y → AllHold rest) → AllHold (z ∷ rest)
+    go true h r = (h, r (rw (h, firstFailed) at e))
+    go false h r = absurd (let f : Refused (z .number) (z .place) ≡ Accepted y = rw (h, firstFailed) at e in let n : _≡_ {A = ℕ} 0 1 = cc in omega arith)
+
+pub refused-any : (checks : List Check) (x n at : ℕ) (passed : Outcome) → firstFailed checks (Accepted x) ≡ Refused n at
+    → firstFailed checks passed ≡ Refused n at
+unfolding firstFailed
+refused-any [] x n at passed e = absurd (let z : _≡_ {A = ℕ} 0 1 = cc in omega arith)
+refused-any (z ∷ rest) x n at passed e = go (z .holds) refl (refused-any rest x n at passed)
+  where
+    go : (t : Bool) → z .holds ≡ t → (firstFailed rest (Accepted x) ≡ Refused n at → firstFailed rest passed ≡ Refused n at)
+        → firstFailed (z ∷ rest) passed ≡ Refused n at
+    go true h r = rw (h, firstFailed) (r (rw (h, firstFailed) at e))
+    go false h r = rw (h, firstFailed) (rw (h, firstFailed) at e)

@@ -1,0 +1,67 @@
+-- The checks of an open: what holds where they are passed, and that the first failed one answers whatever comes after it.
+-- Assumes nothing.
+use Prim.Native.Nat.{ℕ, _<_}
+use mathlib.Core.Path.{_≡_, refl}
+use mathlib.Core.Bool.{Bool, true, false, _&&_, and-eq-true-iff}
+use mathlib.Core.List.{List}
+use native.Mathlib.Omega.{arith}
+use lib.Dec.{leb, ltb}
+use borrow.Author.Tests.{leb-true, ltb-true, lt-ltb, le-leb}
+use Rattle.kinds.specs.Ranges.{inRangeHops, mostChannels, mostRows, mostHops, endSlot}
+use Rattle.kinds.specs.Checks.{channelPasses}
+use Rattle.kinds.proofs.Laws.{within-true, channel-bounds}
+use Rattle.response.specs.declared.Row.{Row}
+use Rattle.response.specs.declared.Answer.{Answer}
+use Rattle.response.specs.declared.Answer.the-variants.{Found, Nothing}
+use Rattle.response.specs.Trials.{response}
+use Rattle.response.specs.Right.{HasResponse}
+use Rattle.room.specs.Folds.{every, firstNot, sumTo}
+use Rattle.room.specs.Layout.{Store, channelsOf, clockOf, rowsOf}
+use Rattle.room.specs.Route.{exists, isNew, joins}
+use Rattle.room.specs.Sound.{soundOf}
+use Rattle.room.proofs.Laws.Folds.{every-at}
+use Rattle.room.proofs.Laws.Sound.{route-is}
+use Rattle.opening.specs.declared.Outcome.{Outcome}
+use Rattle.opening.specs.declared.Outcome.the-variants.{Accepted, Refused}
+use Rattle.opening.specs.Request.{Request, hops, link}
+use Rattle.opening.specs.Search.{isFound, responds, position, rowsTo}
+use Rattle.opening.specs.Shares.{fitsBuffer}
+use Rattle.opening.specs.Refusal.{hasRoom, earlyChecks, lateChecks, reservedFor}
+use Rattle.opening.proofs.Laws.Facts.{Early, Late}
+use Rattle.opening.proofs.Laws.Checks.{AllHold}
+
+both : (a b : Bool) → a ≡ true → b ≡ true → (a && b) ≡ true
+both a b e f = and-eq-true-iff a b .1 (e, f)
+
+-- a channel that has a response
+found-response : (own limit : ℕ) (above : List Row) → isFound (response own above limit) ≡ true → HasResponse own above limit
+found-response own limit above e = go (response own above limit) refl e
+  where
+    go : (a : Answer) → response own above limit ≡ a → isFound a ≡ true → HasResponse own above limit
+    go (Found r trials) h f = record { length = r; trials = trials; found = h }
+    go (Nothing trials) h f = absurd (let z : _≡_ {A = ℕ} 0 1 = cc f in omega arith)
+
+module _ (w : Store) (q : Request) where
+  pub early-is : AllHold (earlyChecks w q) → Early w q
+  early-is h =
+      let route = h .1 .1 .1 in
+      let places = route .1 .1 .1 .1 in
+      let n = within-true 1 mostHops (hops q) (route .0) in
+      record {
+        sound = h .0;
+        clock = ltb-true _ _ (h .1 .0);
+        good = channel-bounds _ _ _ _ (h .1 .1 .0);
+        hops-least = n .0;
+        hops-most = n .1;
+        route = route-is w (link q) (hops q) (both _ _ (route .1 .0) (both _ _ (route .1 .1 .0) (route .1 .1 .1 .0)));
+        channels = ltb-true _ _ (places .0);
+        room = λ j k. ltb-true _ _ (every-at (hasRoom w (link q)) (hops q) (places .1 .0) j k);
+      }
+
+  pub late-is : AllHold (lateChecks w q) → Late w q
+  late-is h =
+      record {
+        responds = λ j k. found-response _ _ _ (every-at (responds w (q .c) (q .p) (link q)) (hops q) (h .0) j k);
+        total = leb-true _ _ (h .1 .0);
+        fits = λ j k. leb-true _ _ (every-at (fitsBuffer w (link q) (reservedFor w q)) (hops q) (h .1 .1 .0) j k);
+      }
