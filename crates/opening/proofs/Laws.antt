@@ -2,3 +2,4 @@
 pub mod Facts
 pub mod Checks
 pub mod Passed
+pub mod Eight

@@ -1,5 +1,5 @@
 -- A loop that marks the links it has seen: a link is marked exactly if it stands at a place passed. Assumes nothing.
-use Prim.Native.Nat.{ℕ, zero, suc, _+_, _<_}
+use Prim.Native.Nat.{ℕ, _+_, _<_}
 use mathlib.Core.Path.{_≡_, refl, sym, ap, _∙_}
 use mathlib.Core.Bool.{true, false, not}
 use mathlib.Core.List.{List}
@@ -11,6 +11,7 @@ use lib.Seq.{getD-set-same, getD-set-other}
 use borrow.Author.Tests.{eq-eqb, ne-eqb}
 use Rattle.kinds.specs.Ranges.{mostLinks}
 use Rattle.room.specs.Route.{differs, isNew}
+use Rattle.room.proofs.Laws.Layout.{zeros}
 use Rattle.room.proofs.Laws.Folds.{below, every-false, every-true, Passing, passing-none, passing-more}
 
 -- link l stands at place `at`, one of the first j
@@ -24,11 +25,6 @@ pub record Seeing (route : ℕ → ℕ) (n : ℕ) (seen : List ℕ) (j : ℕ) : 
   pub passing : Passing (isNew route) n j
   pub marked : (i : ℕ) → i < j → getD seen (route i) 0 ≡ 1
   pub only : (l : ℕ) → getD seen l 0 ≡ 1 → Stood route j l
-
-zeros : (n l : ℕ) → _≡_ {A = ℕ} (getD (replicate n 0) l 0) 0
-zeros zero l = refl
-zeros (suc n) zero = refl
-zeros (suc n) (suc l) = zeros n l
 
 pub seeing-none : (route : ℕ → ℕ) (n : ℕ) → Seeing route n (replicate mostLinks 0) 0
 seeing-none route n =

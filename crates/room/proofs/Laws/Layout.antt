@@ -1,8 +1,8 @@
 -- Reading after writing: what was written is read, any other number is as before, and the length stays. A field is a place,
 -- so these three laws serve every field; that two places differ is linear arithmetic. Assumes nothing.
-use Prim.Native.Nat.{ℕ, _<_}
-use mathlib.Core.Path.{_≡_}
-use lib.ListN.{length, length-set}
+use Prim.Native.Nat.{ℕ, zero, suc, _<_}
+use mathlib.Core.Path.{_≡_, refl}
+use lib.ListN.{length, replicate, length-set}
 use lib.Seq.{getD-set-same, getD-set-other}
 use Rattle.room.specs.Layout.{Store, Long, numberAt, withNumber}
 
@@ -18,3 +18,9 @@ module _ (w : Store) (at n : ℕ) where
 
   pub stays-long : Long w → Long (withNumber w at n)
   stays-long h = rw as-long h
+
+-- among zeros, and past them, 0 is read
+pub zeros : (n at : ℕ) → numberAt (replicate n 0) at ≡ 0
+zeros zero at = refl
+zeros (suc n) zero = refl
+zeros (suc n) (suc at) = zeros n at
