@@ -3,3 +3,4 @@ pub mod Facts
 pub mod Checks
 pub mod Passed
 pub mod Eight
+pub mod Search
