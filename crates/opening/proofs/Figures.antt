@@ -1,35 +1,92 @@
 -- Document 01's figures on opening, computed from the definitions. Assumes nothing.
-use Prim.Native.Nat.{ℕ, zero, suc}
+use Prim.Native.Nat.{ℕ}
 use mathlib.Core.Path.{_≡_, refl}
-use mathlib.Core.Bool.{true, false}
-use mathlib.Core.List.{List, [], _∷_, _++_}
-use lib.Dec.{leb, ltb, eqb}
-use lib.ListN.{replicate, length, getD, set}
-use Rattle.kinds.specs.Ranges.{within}
+use mathlib.Core.List.{[], _∷_}
+use lib.ListN.{replicate, take}
 use Rattle.response.specs.declared.Answer.the-variants.{Found, Nothing}
 use Rattle.response.specs.Need.{ceil, work, need, packets, start}
 use Rattle.response.specs.Trials.{tried, response}
 use Rattle.room.specs.Folds.{every, firstNot, sumTo}
-use Rattle.room.specs.Layout.{Store, withC, withP, withDelay, withRows}
-use Rattle.room.specs.Sound.{soundOf}
+use Rattle.room.specs.Layout.{Store, numberAt, withC, withP, withDelay, withRows, withBuffer}
+use Rattle.room.specs.Amounts.{reservedOf}
+use Rattle.opening.specs.declared.Outcome.{Outcome}
 use Rattle.opening.specs.declared.Outcome.the-variants.{Accepted, Refused}
 use Rattle.opening.specs.Request.{Request}
 use Rattle.opening.specs.Search.{rowsTo, smallest, position, newResponse}
-use Rattle.opening.specs.Shares.{delays, eight}
+use Rattle.opening.specs.Shares.{delays, reserved, eight}
 use Rattle.opening.specs.Join.{withRow}
+use Rattle.opening.specs.Refusal.{firstFailed, lateChecks}
 
--- a store in which link 0 has the rows (c, p, d) and (c′, p′, d′), of channels 0 and 1
-pair : (c p d c′ p′ d′ : ℕ) → Store
-pair c p d c′ p′ d′ =
-    withDelay (withP (withC (withDelay (withP (withC
-    (withRow (withRow (withRows (replicate 2_000 0) 0 2) 0 0 0 0) 0 1 1 0)
-    0 c) 0 p) 0 0 d) 1 c′) 1 p′) 1 0 d′
+-- a store in which link 0, with a buffer of 64, has the first n of the rows (c, p, d), (c′, p′, d′) of channels 0 and 1
+room : (n c p d c′ p′ d′ : ℕ) → Store
+room n c p d c′ p′ d′ =
+    withDelay
+    (withP
+    (withC
+    (withDelay
+    (withP
+    (withC (withRow (withRow (withRows (withBuffer (replicate 2_000 0) 0 64) 0 n) 0 0 0 0) 0 1 1 0) 0 c)
+    0
+    p)
+    0
+    0
+    d)
+    1
+    c′)
+    1
+    p′)
+    1
+    0
+    d′
 
--- "Rows (1,4,2), (2,6,3), new C 3: lowest place; .. response 10, four trials"
-lowest : position (pair 1 4 2 2 6 3) 3 10 0 ≡ 2
-unfolding pair rowsTo smallest response tried need start packets work ceil
+-- an open over link 0 alone, and what checks 8 to 10 say of it
+asked : (c p d b : ℕ) → Request
+asked c p d b = record { c = c; p = p; d = d; b = b; route = 0 ∷ [] }
+
+outcome : Store → Request → Outcome
+outcome w q = firstFailed (take 3 (lateChecks w q)) (Accepted 0)
+
+-- "Rows (1,4,2), (2,6,3), new C 3: lowest place; .. response 10, four trials. p = 10 accepted so far; p = 9 is refusal 8."
+lowest : position (room 2 1 4 2 2 6 3) 3 10 0 ≡ 2
+unfolding room rowsTo smallest response tried need start packets work ceil
 lowest = refl
 
-ten : newResponse (pair 1 4 2 2 6 3) 3 10 0 ≡ Found 10 4
-unfolding pair rowsTo smallest response tried need start packets work ceil
+ten : newResponse (room 2 1 4 2 2 6 3) 3 10 0 ≡ Found 10 4
+unfolding room rowsTo smallest response tried need start packets work ceil
 ten = refl
+
+spaced-ten : outcome (room 2 1 4 2 2 6 3) (asked 3 10 10 1) ≡ Accepted 0
+unfolding outcome asked firstFailed every firstNot sumTo reserved reservedOf room rowsTo smallest response tried need start packets work ceil
+spaced-ten = refl
+
+spaced-nine : outcome (room 2 1 4 2 2 6 3) (asked 3 9 10 1) ≡ Refused 8 0
+unfolding outcome asked firstFailed every firstNot room rowsTo smallest response tried need start packets work ceil
+spaced-nine = refl
+
+-- "Row (1,2,2), new C 1, p 2: response 1. Rows (1,2,2), (1,2,2), the same again: refusal 8."
+one : newResponse (room 1 1 2 2 0 0 0) 1 2 0 ≡ Found 1 1
+unfolding room rowsTo smallest response tried need start packets work ceil
+one = refl
+
+again : outcome (room 2 1 2 2 1 2 2) (asked 1 2 2 1) ≡ Refused 8 0
+unfolding outcome asked firstFailed every firstNot room rowsTo smallest response tried need start packets work ceil
+again = refl
+
+-- "Responses 2 and 3, D = 11, p = 20: delays 4 and 6."
+shared : eight (delays 20 11 2 (numberAt (2 ∷ (3 ∷ [])))) 2 ≡ 4 ∷ (6 ∷ replicate 6 0)
+unfolding eight sumTo
+shared = refl
+
+-- "One link, r = 2, p = 10, D = 40: d = 10."
+cut : delays 10 40 1 (numberAt (2 ∷ [])) 0 ≡ 10
+unfolding sumTo
+cut = refl
+
+-- "r = 5 on one link: D = 5 accepted; D = 4 refusal 9."
+five : outcome (room 0 0 0 0 0 0 0) (asked 5 10 5 1) ≡ Accepted 0
+unfolding outcome asked firstFailed every firstNot sumTo reserved reservedOf room rowsTo smallest response tried need start packets work ceil
+five = refl
+
+four : outcome (room 0 0 0 0 0 0 0) (asked 5 10 4 1) ≡ Refused 9 0
+unfolding outcome asked firstFailed every firstNot sumTo room rowsTo smallest response tried need start packets work ceil
+four = refl
