@@ -15,6 +15,10 @@ unfoldable pub openOutcome : Store → Request → Outcome
 openOutcome w q = openRefusal w q (Accepted (channelsOf w))
 
 -- "the numbers per link stand beside it, all 0 on a refusal and past the end of the route"
+abbrev pub refusal : (number place : ℕ) → Opening
+refusal number place =
+    record { outcome = Refused number place; responses = replicate 8 0; delays = replicate 8 0; reserved = replicate 8 0 }
+
 abbrev pub answerOn : Outcome → Store → Request → Opening
 answerOn (Accepted channel) w q = record {
   outcome = Accepted channel;
@@ -22,8 +26,7 @@ answerOn (Accepted channel) w q = record {
   delays = eight (delaysOf w q) (hops q);
   reserved = eight (reservedFor w q) (hops q);
 }
-answerOn (Refused number place) w q =
-    record { outcome = Refused number place; responses = replicate 8 0; delays = replicate 8 0; reserved = replicate 8 0 }
+answerOn (Refused number place) w q = refusal number place
 
 unfoldable pub openAnswer : Store → Request → Opening
 openAnswer w q = answerOn (openOutcome w q) w q

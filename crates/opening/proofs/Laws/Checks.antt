@@ -1,9 +1,10 @@
 -- A list of checks: the first that fails answers, whatever comes after it. Assumes nothing.
-use Prim.Native.Nat.{ℕ}
+use Prim.Native.Nat.{ℕ, zero, suc}
 use mathlib.Core.Path.{_≡_, refl}
 use mathlib.Core.Bool.{Bool, true, false}
 use mathlib.Core.List.{List, [], _∷_, _++_}
 use native.Mathlib.Omega.{arith}
+use lib.ListN.{take, drop}
 use Rattle.opening.specs.declared.Outcome.{Outcome}
 use Rattle.opening.specs.declared.Outcome.the-variants.{Accepted, Refused}
 use Rattle.opening.specs.Refusal.{Check, firstFailed}
@@ -56,3 +57,23 @@ refused-any (z ∷ rest) x n at passed e = go (z .holds) refl (refused-any rest 
         → firstFailed (z ∷ rest) passed ≡ Refused n at
     go true h r = rw (h, firstFailed) (r (rw (h, firstFailed) at e))
     go false h r = rw (h, firstFailed) (rw (h, firstFailed) at e)
+
+-- The same for a caller that has got past the first k checks: one that holds, and one that fails.
+module _ {x : Check} {rest : List Check} where
+  pub one-more : (checks : List Check) (k : ℕ) → drop k checks ≡ x ∷ rest → AllHold (take k checks) → x .holds ≡ true
+      → AllHold (take (suc k) checks)
+  one-more [] zero e h t = absurd (let n : _≡_ {A = ℕ} 0 1 = cc in omega arith)
+  one-more [] (suc k) e h t = absurd (let n : _≡_ {A = ℕ} 0 1 = cc in omega arith)
+  one-more (y ∷ checks) zero e h t = (let s : y ≡ x = cc in rw s t, tt)
+  one-more (y ∷ checks) (suc k) e h t = (h .0, one-more checks k e (h .1) t)
+
+  pub fails-after : (checks : List Check) (k : ℕ) (passed : Outcome) → drop k checks ≡ x ∷ rest → AllHold (take k checks)
+      → x .holds ≡ false → Refused (x .number) (x .place) ≡ firstFailed checks passed
+  unfolding firstFailed
+  fails-after [] zero passed e h f = absurd (let n : _≡_ {A = ℕ} 0 1 = cc in omega arith)
+  fails-after [] (suc k) passed e h f = absurd (let n : _≡_ {A = ℕ} 0 1 = cc in omega arith)
+  fails-after (y ∷ checks) zero passed e h f =
+      let s : x ≡ y = cc in
+      let g : y .holds ≡ false = rw s at f in
+      rw (g, s, firstFailed)
+  fails-after (y ∷ checks) (suc k) passed e h f = rw (h .0, firstFailed) (fails-after checks k passed e (h .1) f)
