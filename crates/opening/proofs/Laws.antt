@@ -4,3 +4,7 @@ pub mod Checks
 pub mod Passed
 pub mod Eight
 pub mod Search
+pub mod Written
+pub mod Row
+pub mod Rows
+pub mod Join

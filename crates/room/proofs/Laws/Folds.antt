@@ -82,6 +82,13 @@ module _ (f : ℕ → Bool) where
       go true false a b r = rw (a, b, firstNot) (omega arith)
       go false b a h r = rw (a, firstNot) (omega (arith, r a))
 
+  pub first-most : (n : ℕ) → firstNot f n ≤ n
+  first-most n = go (every f n) refl
+    where
+      go : (t : Bool) → every f n ≡ t → firstNot f n ≤ n
+      go true a = omega (arith, first-end n a)
+      go false a = omega (arith, first-below n a)
+
   -- as tests on the number that was found
   pub first-less : (n u : ℕ) → u ≡ firstNot f n → u < n → every f n ≡ false
   first-less n u e h = go (every f n) refl
@@ -137,6 +144,19 @@ pub every-same : (f g : ℕ → Bool) (n : ℕ) → ((i : ℕ) → i < n → f i
 unfolding every
 every-same f g zero h = refl
 every-same f g (suc n) h = rw (every-same f g n (λ i l. h i (omega arith)), h n (omega arith))
+
+pub first-same : (f g : ℕ → Bool) (n : ℕ) → ((i : ℕ) → i < n → f i ≡ g i) → firstNot f n ≡ firstNot g n
+unfolding firstNot
+first-same f g zero h = refl
+first-same f g (suc n) h =
+    go (every g n) (g n) (every-same f g n (λ i l. h i (omega arith))) refl (h n (omega arith)) refl
+    (first-same f g n (λ i l. h i (omega arith)))
+  where
+    go : (a b : Bool) → every f n ≡ a → every g n ≡ a → f n ≡ b → g n ≡ b → firstNot f n ≡ firstNot g n
+        → firstNot f (suc n) ≡ firstNot g (suc n)
+    go true true a a′ b b′ r = rw (a, a′, b, b′, firstNot)
+    go true false a a′ b b′ r = rw (a, a′, b, b′, firstNot)
+    go false t a a′ b b′ r = rw (a, a′, firstNot) r
 
 module _ (f : ℕ → ℕ) where
   pub sum-none : sumTo f 0 ≡ 0
