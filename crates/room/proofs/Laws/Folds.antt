@@ -27,6 +27,11 @@ or-false : (a b : Bool) → b ≡ false → (a || b) ≡ true → a ≡ true
 or-false true b e h = refl
 or-false false b e h = cc
 
+-- i is the first below n of which f does not hold, or it is n
+pub record First (f : ℕ → Bool) (n i : ℕ) : Type 0 where
+  pub before : every f i ≡ true
+  pub fails : i < n → f i ≡ false
+
 module _ (f : ℕ → Bool) where
   pub every-none : every f 0 ≡ true
   unfolding every
@@ -110,6 +115,16 @@ module _ (f : ℕ → Bool) where
       go : (t : Bool) → every f n ≡ t → leb n u ≡ every f n
       go true a = rw a (le-leb n u (omega (arith, first-end n a)))
       go false a = rw a (lt-leb n u (omega (arith, first-below n a)))
+
+  pub first-is : (n : ℕ) → First f n (firstNot f n)
+  unfolding every firstNot
+  first-is zero = record { before = refl; fails = λ h. absurd (omega arith) }
+  first-is (suc n) = go (every f n) (f n) refl refl (first-is n)
+    where
+      go : (a b : Bool) → every f n ≡ a → f n ≡ b → First f n (firstNot f n) → First f (suc n) (firstNot f (suc n))
+      go true true a b r = rw (a, b, firstNot) (record { before = rw (a, b); fails = λ h. absurd (omega arith) })
+      go true false a b r = rw (a, b, firstNot) (record { before = a; fails = λ h. b })
+      go false b a h r = rw (a, firstNot) (record { before = r .before; fails = λ l. r .fails (first-below n a) })
 
   pub some-true : (n i : ℕ) → i < n → f i ≡ true → some f n ≡ true
   unfolding some

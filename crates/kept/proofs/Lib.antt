@@ -1,0 +1,12 @@
+pub mod Insert
+pub mod Place
+pub mod Same
+pub mod Rows
+pub mod Kept
+pub mod Old
+pub mod New
+pub mod Away
+pub mod Join
+pub mod Each
+pub mod Listed
+pub mod Sound
