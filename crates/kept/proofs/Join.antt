@@ -47,7 +47,7 @@ module _ {w w′ : Store} {q : Request} {d : ℕ → ℕ} (o : Opened w w′ q d
     joined : Joined w w′ l at (channelsOf w) j
     joined = o .after .joined j h
 
-    old : Rows w l n (entry w l)
+    pub old : Rows w l n (entry w l)
     old = rows-here (was-sound o .rows l (o .early .route .known j h))
 
     pub inserted : Inserted (entry w l) (entry w′ l) n at new
@@ -72,10 +72,10 @@ module _ {w w′ : Store} {q : Request} {d : ℕ → ℕ} (o : Opened w w′ q d
     kept-delay k i = old-delay (was-sound o) (open-keeps o) (old .here k i)
 
     -- the new row stands after all rows of no greater delay
-    first : First (noLater w l (d j)) n at
+    pub first : First (noLater w l (d j)) n at
     first = first-is (noLater w l (d j)) n
 
-    no-later : (k : ℕ) → k < at → entryDelay w (entry w l k) ≤ d j
+    pub no-later : (k : ℕ) → k < at → entryDelay w (entry w l k) ≤ d j
     no-later k i = leb-true _ _ (every-at (noLater w l (d j)) at (first .before) k i)
 
     above : (k : ℕ) → suc k ≡ at → Follows w′ (entry w l k) new

@@ -10,3 +10,6 @@ pub mod Join
 pub mod Each
 pub mod Listed
 pub mod Sound
+pub mod Table
+pub mod Search
+pub mod Feasible

@@ -18,6 +18,10 @@ unfoldable pub rowsTo : Store → (l n : ℕ) → List Row
 rowsTo w l zero = []
 rowsTo w l (suc k) = rowsTo w l k ++ (rowAt w l k ∷ [])
 
+-- all of them: the link's table
+abbrev pub tableOf : Store → (l : ℕ) → List Row
+tableOf w l = rowsTo w l (rowsOf w l)
+
 -- the new channel as a row; it has no delay yet, and none is looked at
 abbrev pub newRow : (c p : ℕ) → Row
 newRow c p = record { c = c; p = p; delay = 0 }

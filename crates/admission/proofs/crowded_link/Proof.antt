@@ -26,13 +26,13 @@ shared-slice-read-rows : tie.Need-shared-slice-read-rows Inv-loop μ-loop
 shared-slice-read-rows c = omega arith
 
 rows-requires : tie.Need-rows-requires Inv-loop μ-loop
-rows-requires c κs = 
+rows-requires c κs =
     let s = c .before .before .before .before .before in
     let j = c .before .before .loop .j in
     (s .pre .0, rw (zero-add j) at (s .pre .1 j (omega arith)))
 
 returns : tie.Need-returns Inv-loop μ-loop
-returns c = 
+returns c =
     let t = c .before .before .before in
     rw (from-start (t .before .before .before .before .args .route .now))
     (passing-first _ _ _ (t .before .loop .inv) (t .loop-test .taken) (at-least (c .before .rows .ensures) (c .if1 .taken)))
@@ -44,7 +44,7 @@ loop-less : tie.Need-loop-less Inv-loop μ-loop
 loop-less c = omega arith
 
 loop-again : tie.Need-loop-again Inv-loop μ-loop
-loop-again c = 
+loop-again c =
     let t = c .before .before .before in
     passing-more _ _ _ (t .before .loop .inv) (t .loop-test .taken) (under (c .before .rows .ensures) (c .if1 .left))
 

@@ -29,17 +29,10 @@ use Rattle.opening.specs.Shares.{fitsBuffer}
 use Rattle.opening.specs.Refusal.{hasRoom, earlyChecks, lateChecks, reservedFor}
 use Rattle.opening.proofs.Laws.Facts.{Early, Late}
 use Rattle.opening.proofs.Laws.Checks.{AllHold}
+use Rattle.opening.proofs.Laws.Search.{found-response}
 
 both : (a b : Bool) → a ≡ true → b ≡ true → (a && b) ≡ true
 both a b e f = and-eq-true-iff a b .1 (e, f)
-
--- a channel that has a response
-found-response : (own limit : ℕ) (above : List Row) → isFound (response own above limit) ≡ true → HasResponse own above limit
-found-response own limit above e = go (response own above limit) refl e
-  where
-    go : (a : Answer) → response own above limit ≡ a → isFound a ≡ true → HasResponse own above limit
-    go (Found r trials) h f = record { length = r; trials = trials; found = h }
-    go (Nothing trials) h f = absurd (let z : _≡_ {A = ℕ} 0 1 = cc f in omega arith)
 
 module _ (w : Store) (q : Request) where
   pub early-is : AllHold (earlyChecks w q) → Early w q

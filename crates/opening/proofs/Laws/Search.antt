@@ -2,13 +2,18 @@
 use Prim.Native.Nat.{ℕ, zero, suc, _≤_, _<_}
 use mathlib.Core.Path.{_≡_, refl, _∙_}
 use mathlib.Core.Bool.{Bool, true, false}
-use mathlib.Core.List.{[], _∷_}
+use mathlib.Core.List.{List, [], _∷_}
 use native.Mathlib.Omega.{arith}
 use lib.ListN.{length, take, length-append}
 use lib.Seq.{take-all, take-append-le}
+use Rattle.response.specs.declared.Row.{Row}
+use Rattle.response.specs.declared.Answer.{Answer}
+use Rattle.response.specs.declared.Answer.the-variants.{Found, Nothing}
+use Rattle.response.specs.Trials.{response}
+use Rattle.response.specs.Right.{HasResponse}
 use Rattle.room.specs.Layout.{Store}
 use Rattle.room.proofs.Laws.Folds.{below}
-use Rattle.opening.specs.Search.{rowAt, rowsTo, smallest}
+use Rattle.opening.specs.Search.{rowAt, rowsTo, isFound, smallest}
 
 -- q is the smallest number such that f holds of each from q on, below n
 pub record Smallest (f : ℕ → Bool) (n q : ℕ) : Type 0 where
@@ -76,3 +81,14 @@ module _ (w : Store) (l : ℕ) where
       (λ b.
       take-append-le n (rowsTo w l m) (rowAt w l m ∷ []) (omega (arith, rows-length m)) ∙ rows-take m n (omega arith))
       (λ e. rw e (take-all (suc m) (rowsTo w l (suc m)) (omega (arith, rows-length (suc m)))))
+
+-- a response that is found, as a test and as a fact
+pub found-response : (own limit : ℕ) (above : List Row) → isFound (response own above limit) ≡ true → HasResponse own above limit
+found-response own limit above e = go (response own above limit) refl e
+  where
+    go : (a : Answer) → response own above limit ≡ a → isFound a ≡ true → HasResponse own above limit
+    go (Found r trials) h f = record { length = r; trials = trials; found = h }
+    go (Nothing trials) h f = absurd (let z : _≡_ {A = ℕ} 0 1 = cc f in omega arith)
+
+pub response-found : (own limit : ℕ) (above : List Row) → HasResponse own above limit → isFound (response own above limit) ≡ true
+response-found own limit above h = rw (h .found)
