@@ -1,1 +1,2 @@
 mod Tests
+mod Outcome

@@ -12,16 +12,13 @@ use opening::Outcome;
 use room::head;
 use room::link;
 ghost use mathlib.Core.Path.{_≡_};
-ghost use mathlib.Core.Bool.{true};
-ghost use Prim.Native.Nat.{_≤_};
 ghost use lib.ListN.{length};
-ghost use Rattle.kinds.specs.Ranges.{mostLinks};
 ghost use Rattle.room.specs.Layout.{Long, channelsOf};
 ghost use Rattle.room.specs.Folds.{firstNot};
 ghost use Rattle.room.specs.Route.{from, Known};
 ghost use Rattle.opening.specs.declared.Outcome.the-variants.{Accepted, Refused};
 ghost use Rattle.opening.specs.Refusal.{hasRoom, firstFailed, earlyChecks};
-ghost use Rattle.opening.specs.Open.{answerOn, openAnswer, openStore};
+ghost use Rattle.opening.specs.Open.{openAnswer, openStore};
 
 // A refusal: 0 beside it.
 fn refused(number: u64, place: u64) -> Opening

@@ -1,8 +1,7 @@
 -- An accepted open keeps every link's table feasible: Theorem B of crate `schedule` at each link of the route. Assumes nothing.
-use Prim.Native.Nat.{ℕ, zero, suc, _+_, _≤_, _<_}
+use Prim.Native.Nat.{ℕ, zero, suc, _≤_, _<_}
 use mathlib.Core.Path.{_≡_, sym, _∙_, ap, subst}
 use mathlib.Core.Logic.{⊎-elim}
-use mathlib.Core.List.{List}
 use native.Mathlib.Numerals.{add-one}
 use native.Mathlib.Omega.{arith}
 use borrow.Author.Tests.{leb-false}
@@ -22,7 +21,7 @@ use Rattle.opening.proofs.Laws.Search.{smallest-is, rows-take}
 use Rattle.kept.proofs.Insert.{Inserted, inserted-map}
 use Rattle.kept.proofs.Place.{Away}
 use Rattle.kept.proofs.Same.{SameRecord, c-same, p-same}
-use Rattle.kept.proofs.Rows.{Entry, entry, entryDelay, Here, Follows, Rows, rows-here}
+use Rattle.kept.proofs.Rows.{Entry, entry, entryDelay, Here, Rows, rows-here}
 use Rattle.kept.proofs.Kept.{Opened, was-sound, open-keeps}
 use Rattle.kept.proofs.Old.{old-delay}
 use Rattle.kept.proofs.Away.{away-count, away-entry}

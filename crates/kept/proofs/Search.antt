@@ -1,7 +1,7 @@
 -- The search of an open on one link is the one of crate `schedule`: its position is the smallest after which every row has a
 -- response. Assumes nothing.
 use Prim.Native.Nat.{ℕ, suc, _-_, _≤_, _<_}
-use mathlib.Core.Path.{_≡_, sym, _∙_, ap, subst, subst₂}
+use mathlib.Core.Path.{_≡_, sym, _∙_, ap, subst₂}
 use mathlib.Core.Bool.{true, false}
 use mathlib.Core.List.{List, _∷_, _++_}
 use native.Mathlib.Decide.{decLe}

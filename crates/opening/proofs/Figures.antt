@@ -3,7 +3,7 @@ use Prim.Native.Nat.{ℕ}
 use mathlib.Core.Path.{_≡_, refl}
 use mathlib.Core.List.{[], _∷_}
 use lib.ListN.{replicate, take}
-use Rattle.response.specs.declared.Answer.the-variants.{Found, Nothing}
+use Rattle.response.specs.declared.Answer.the-variants.{Found}
 use Rattle.response.specs.Need.{ceil, work, need, packets, start}
 use Rattle.response.specs.Trials.{tried, response}
 use Rattle.room.specs.Folds.{every, firstNot, sumTo}

@@ -1,6 +1,6 @@
 -- `admission::early` meets its contract: each check is looked at once those before it hold. Assumes nothing.
-use Prim.Native.Nat.{ℕ, _≤_, _<_}
-use mathlib.Core.Path.{_≡_, refl, sym, _∙_}
+use Prim.Native.Nat.{_≤_}
+use mathlib.Core.Path.{refl, sym, _∙_}
 use mathlib.Core.List.{List}
 use native.Mathlib.Omega.{arith}
 use borrow.Author.Needs.{needs}
@@ -10,7 +10,7 @@ use Rattle.kinds.proofs.Laws.{refuted, held, good-channel, refused-channel, goo
 use Rattle.room.specs.Layout.{Long, linksOf}
 use Rattle.room.specs.Route.{from, Known}
 use Rattle.room.proofs.Laws.Folds.{first-less, first-all}
-use Rattle.room.proofs.Laws.Sound.{Sound, sound-is}
+use Rattle.room.proofs.Laws.Sound.{sound-is}
 use Rattle.route.proofs.Laws.{link-bound}
 use Rattle.opening.specs.Refusal.{Check, earlyChecks}
 use Rattle.opening.proofs.Laws.Checks.{AllHold, all-passed, one-more, fails-after}

@@ -1,6 +1,6 @@
 -- A list of checks: the first that fails answers, whatever comes after it. Assumes nothing.
 use Prim.Native.Nat.{ℕ, zero, suc}
-use mathlib.Core.Path.{_≡_, refl}
+use mathlib.Core.Path.{_≡_, refl, sym, _∙_}
 use mathlib.Core.Bool.{Bool, true, false}
 use mathlib.Core.List.{List, [], _∷_, _++_}
 use native.Mathlib.Omega.{arith}
@@ -77,3 +77,28 @@ module _ {x : Check} {rest : List Check} where
       let g : y .holds ≡ false = rw s at f in
       rw (g, s, firstFailed)
   fails-after (y ∷ checks) (suc k) passed e h f = rw (h .0, firstFailed) (fails-after checks k passed e (h .1) f)
+
+pub hold-append : (front back : List Check) → AllHold (front ++ back) → AllHold front × AllHold back
+hold-append [] back h = (tt, h)
+hold-append (x ∷ front) back h = let r : _ = hold-append front back (h .1) in ((h .0, r .0), r .1)
+
+-- a refusal number that no check of the list can give
+abbrev pub Clear : (number : ℕ) → List Check → Type 0
+Clear number [] = Unit {0}
+Clear number (x ∷ rest) = (x .number ≡ number → x .holds ≡ true) × Clear number rest
+
+pub clear-passed : (number place : ℕ) (checks : List Check) (passed : Outcome) → Clear number checks
+    → firstFailed checks passed ≡ Refused number place → AllHold checks × (passed ≡ Refused number place)
+unfolding firstFailed
+clear-passed number place [] passed c e = (tt, e)
+clear-passed number place (x ∷ rest) passed c e = go (x .holds) refl (clear-passed number place rest passed (c .1))
+  where
+    go : (t : Bool) → x .holds ≡ t
+        → (firstFailed rest passed ≡ Refused number place → AllHold rest × (passed ≡ Refused number place))
+        → AllHold (x ∷ rest) × (passed ≡ Refused number place)
+    go true h r = let k : _ = r (rw (h, firstFailed) at e) in ((h, k .0), k .1)
+    go false h r =
+        let f : Refused (x .number) (x .place) ≡ Refused number place = rw (h, firstFailed) at e in
+        let n : x .number ≡ number = cc in
+        let t : true ≡ false = sym (c .0 n) ∙ h in
+        absurd (let z : _≡_ {A = ℕ} 0 1 = cc in omega arith)

@@ -1,30 +1,16 @@
 -- The checks of an open: what holds where they are passed, and that the first failed one answers whatever comes after it.
 -- Assumes nothing.
-use Prim.Native.Nat.{ℕ, _<_}
-use mathlib.Core.Path.{_≡_, refl}
-use mathlib.Core.Bool.{Bool, true, false, _&&_, and-eq-true-iff}
-use mathlib.Core.List.{List}
-use native.Mathlib.Omega.{arith}
-use lib.Dec.{leb, ltb}
-use borrow.Author.Tests.{leb-true, ltb-true, lt-ltb, le-leb}
-use Rattle.kinds.specs.Ranges.{inRangeHops, mostChannels, mostRows, mostHops, endSlot}
-use Rattle.kinds.specs.Checks.{channelPasses}
+use mathlib.Core.Path.{_≡_}
+use mathlib.Core.Bool.{Bool, true, _&&_, and-eq-true-iff}
+use lib.ListN.{take}
+use borrow.Author.Tests.{leb-true, ltb-true}
+use Rattle.kinds.specs.Ranges.{mostHops}
 use Rattle.kinds.proofs.Laws.{within-true, channel-bounds}
-use Rattle.response.specs.declared.Row.{Row}
-use Rattle.response.specs.declared.Answer.{Answer}
-use Rattle.response.specs.declared.Answer.the-variants.{Found, Nothing}
-use Rattle.response.specs.Trials.{response}
-use Rattle.response.specs.Right.{HasResponse}
-use Rattle.room.specs.Folds.{every, firstNot, sumTo}
-use Rattle.room.specs.Layout.{Store, channelsOf, clockOf, rowsOf}
-use Rattle.room.specs.Route.{exists, isNew, joins}
-use Rattle.room.specs.Sound.{soundOf}
+use Rattle.room.specs.Layout.{Store}
 use Rattle.room.proofs.Laws.Folds.{every-at}
 use Rattle.room.proofs.Laws.Sound.{route-is}
-use Rattle.opening.specs.declared.Outcome.{Outcome}
-use Rattle.opening.specs.declared.Outcome.the-variants.{Accepted, Refused}
 use Rattle.opening.specs.Request.{Request, hops, link}
-use Rattle.opening.specs.Search.{isFound, responds, position, rowsTo}
+use Rattle.opening.specs.Search.{responds}
 use Rattle.opening.specs.Shares.{fitsBuffer}
 use Rattle.opening.specs.Refusal.{hasRoom, earlyChecks, lateChecks, reservedFor}
 use Rattle.opening.proofs.Laws.Facts.{Early, Late}
@@ -51,7 +37,7 @@ module _ (w : Store) (q : Request) where
         room = λ j k. ltb-true _ _ (every-at (hasRoom w (link q)) (hops q) (places .1 .0) j k);
       }
 
-  pub late-is : AllHold (lateChecks w q) → Late w q
+  pub late-is : AllHold (take 3 (lateChecks w q)) → Late w q
   late-is h =
       record {
         responds = λ j k. found-response _ _ _ (every-at (responds w (q .c) (q .p) (link q)) (hops q) (h .0) j k);

@@ -1,0 +1,53 @@
+-- From the checks to the answer and the store after it. Assumes nothing.
+use Prim.Native.Nat.{ℕ}
+use mathlib.Core.Path.{_≡_, sym, _∙_}
+use mathlib.Core.Bool.{false}
+use mathlib.Core.List.{List, _∷_}
+use lib.ListN.{take, drop}
+use Rattle.room.specs.Layout.{Store, channelsOf}
+use Rattle.opening.specs.declared.Outcome.the-variants.{Accepted, Refused}
+use Rattle.opening.specs.Request.{Request}
+use Rattle.opening.specs.Refusal.{Check, firstFailed, earlyChecks, lateChecks, opened}
+use Rattle.opening.specs.Open.{refusal, answerOn, openOutcome, openAnswer, openStore}
+use Rattle.opening.proofs.Laws.Checks.{AllHold, failed-append, all-passed, fails-after, refused-any}
+
+module _ (w : Store) (q : Request) where
+  -- a refusal
+  module _ {number place : ℕ} (e : openOutcome w q ≡ Refused number place) where
+    pub answer-refused : refusal number place ≡ openAnswer w q
+    unfolding openAnswer
+    answer-refused = rw (e, openAnswer)
+
+    pub store-refused : w ≡ openStore w q
+    unfolding openStore
+    store-refused = rw (e, openStore)
+
+  -- a yes
+  module _ {x : ℕ} (e : openOutcome w q ≡ Accepted x) where
+    pub answer-accepted : answerOn (Accepted x) w q ≡ openAnswer w q
+    unfolding openAnswer
+    answer-accepted = rw (e, openAnswer)
+
+    pub store-accepted : opened w q ≡ openStore w q
+    unfolding openStore
+    store-accepted = rw (e, openStore)
+
+  -- where one of 17, 14 and 1 to 7 fails
+  pub early-refused : (x number place : ℕ) → firstFailed (earlyChecks w q) (Accepted x) ≡ Refused number place
+      → openOutcome w q ≡ Refused number place
+  unfolding openOutcome
+  early-refused x number place e =
+      failed-append (earlyChecks w q) (lateChecks w q) _ ∙ refused-any (earlyChecks w q) x number place _ e
+
+  -- where they hold, the others decide
+  module _ (early : AllHold (earlyChecks w q)) where
+    late-decides : openOutcome w q ≡ firstFailed (lateChecks w q) (Accepted (channelsOf w))
+    unfolding openOutcome
+    late-decides = failed-append (earlyChecks w q) (lateChecks w q) _ ∙ all-passed (earlyChecks w q) _ early
+
+    pub late-refused : {x : Check} {rest : List Check} (k : ℕ) → drop k (lateChecks w q) ≡ x ∷ rest
+        → AllHold (take k (lateChecks w q)) → x .holds ≡ false → openOutcome w q ≡ Refused (x .number) (x .place)
+    late-refused k e h f = late-decides ∙ sym (fails-after (lateChecks w q) k _ e h f)
+
+    pub all-accepted : AllHold (lateChecks w q) → openOutcome w q ≡ Accepted (channelsOf w)
+    all-accepted late = late-decides ∙ all-passed (lateChecks w q) _ late
