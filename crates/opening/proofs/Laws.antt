@@ -2,8 +2,9 @@
 pub mod Facts
 pub mod Checks
 pub mod Passed
-pub mod Eight
 pub mod Search
+pub mod Ranged
+pub mod Eight
 pub mod Written
 pub mod Row
 pub mod Rows

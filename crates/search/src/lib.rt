@@ -15,7 +15,7 @@ ghost use Rattle.room.specs.Route.{from, exists};
 ghost use Rattle.room.specs.Sound.{soundOf};
 ghost use Rattle.opening.specs.Search.{responds, responses as responsesOf};
 ghost use Rattle.opening.specs.Shares.{eight};
-ghost use Rattle.search.specs.Table.{Headed, tableWritten};
+ghost use Rattle.search.specs.Table.{tableWritten};
 
 // Link `l`'s rows, C, p and delay of each, below the new channel, which is the table's first row.
 fn put_rows(store: &[u64], l: usize, table: &mut [u64; 99])
@@ -28,9 +28,10 @@ fn put_rows(store: &[u64], l: usize, table: &mut [u64; 99])
     while k < rows {
         let x = link::row_channel(store, l, k);
         let j = link::row_place(store, l, k);
-        table[3 * k + 3] = channel::c(store, x);
-        table[3 * k + 4] = channel::p(store, x);
-        table[3 * k + 5] = channel::delay(store, x, j);
+        let at = 3 * k + 3;
+        table[at] = channel::c(store, x);
+        table[at + 1] = channel::p(store, x);
+        table[at + 2] = channel::delay(store, x, j);
         k += 1;
     }
 }

@@ -1,6 +1,6 @@
 -- The search on one link: the smallest place from which on a test holds, and a link's first rows. Assumes nothing.
-use Prim.Native.Nat.{ℕ, zero, suc, _≤_, _<_}
-use mathlib.Core.Path.{_≡_, refl, _∙_}
+use Prim.Native.Nat.{ℕ, zero, suc, _-_, _≤_, _<_}
+use mathlib.Core.Path.{_≡_, refl, sym, ap, _∙_}
 use mathlib.Core.Bool.{Bool, true, false}
 use mathlib.Core.List.{List, [], _∷_}
 use native.Mathlib.Omega.{arith}
@@ -64,6 +64,32 @@ module _ (f : ℕ → Bool) where
             holds = λ k a b. absurd (omega arith);
             stops = λ k i. let j : k ≡ n = omega arith in rw j e;
           })
+
+-- A loop that goes down from n: f holds of each number passed.
+pub record Falling (f : ℕ → Bool) (n q : ℕ) : Type 0 where
+  pub place : q ≤ n
+  pub all : (k : ℕ) → q ≤ k → k < n → f k ≡ true
+
+module _ (f : ℕ → Bool) (n : ℕ) where
+  pub falling-none : (q : ℕ) → q ≡ n → Falling f n q
+  falling-none q e = record { place = omega arith; all = λ k a b. absurd (omega arith) }
+
+  pub falling-more : (q : ℕ) → Falling f n q → 0 < q → f (q - 1) ≡ true → Falling f n (q - 1)
+  falling-more q g h e =
+      record {
+        place = omega (arith, g .place);
+        all = λ k a b. below (q - 1) k (omega arith) (λ c. g .all k (omega arith) b) (λ c. rw c at e);
+      }
+
+  pub falling-stop : (q : ℕ) → Falling f n q → 0 < q → f (q - 1) ≡ false → q ≡ smallest f n
+  falling-stop q g h e =
+      let i : q ≡ suc (q - 1) = omega arith in
+      i ∙ sym (smallest-down f n q (g .place) (g .all) ∙ ap (smallest f) i ∙ smallest-false f (q - 1) e)
+
+  pub falling-end : (q : ℕ) → Falling f n q → q ≤ 0 → q ≡ smallest f n
+  falling-end q g h =
+      let i : q ≡ 0 = omega arith in
+      i ∙ sym (smallest-down f n q (g .place) (g .all) ∙ ap (smallest f) i ∙ smallest-none f)
 
 module _ (w : Store) (l : ℕ) where
   pub rows-length : (n : ℕ) → length (rowsTo w l n) ≡ n
