@@ -126,7 +126,8 @@ pub fn open(store: &mut [u64], c: u64, p: u64, d: u64, b: u64, route: &[u64]) ->
     ensures { λ _. ⌜ now (store .exit) ≡ openStore (now (store .entry)) (record { c = c; p = p; d = d; b = b; route = now (route .entry) }) ⌝ }
 {
     let opening = answer(store, c, p, d, b, route);
-    if let Outcome::Accepted(x) = opening.outcome {
+    let outcome = opening.outcome;
+    if let Outcome::Accepted(x) = outcome {
         join::enter(store, x as usize, c, p, d, b, route, &opening.delays);
     }
     opening

@@ -1,9 +1,11 @@
 // What the router's control board calls, from C: numbers and lent buffers only. include/byanghosu.h declares it.
 // Every call returns the refusal number of document 01, or 0 where it ran; a refused call writes no output but `place`.
+use opening::Outcome;
 use response::Answer;
 use response::Reply;
 use setup::SetUp;
 ghost use mathlib.Core.Path.{_≡_};
+ghost use Rattle.opening.specs.Open.{openAnswer, openStore, valuesOf as openValues};
 ghost use Rattle.room.specs.Sound.{soundOf};
 ghost use Rattle.setup.specs.SetUp.{setUpAnswer, setUpStore, valuesOf as setUpValues};
 ghost use Rattle.response.specs.Alone.{Values, valuesOf, aloneOn};
@@ -58,6 +60,45 @@ pub extern "C" fn byanghosu_set_up(store: &mut [u64], links: &[u64], place: &mut
         }
         SetUp::Refused(number, link) => {
             *place = link;
+            number
+        }
+    }
+}
+
+// Opens a channel. `responses`, `delays` and `reserved` take the numbers of each link along the route, 0 past its end and all 0
+// on a refusal; `channel` takes the channel's number where it was opened.
+#[no_mangle]
+pub extern "C" fn byanghosu_open(
+    store: &mut [u64],
+    c: u64,
+    p: u64,
+    d: u64,
+    b: u64,
+    route: &[u64],
+    channel: &mut u64,
+    responses: &mut [u64; 8],
+    delays: &mut [u64; 8],
+    reserved: &mut [u64; 8],
+    place: &mut u64,
+) -> u64
+    ensures { λ r. ⌜ record { number = r; place = now (place .exit); channel = now (channel .exit); responses = now (responses .exit);
+        delays = now (delays .exit); reserved = now (reserved .exit) }
+        ≡ openValues (openAnswer (now (store .entry)) (record { c = c; p = p; d = d; b = b; route = now (route .entry) })) (now (channel .entry)) ⌝ }
+    ensures { λ _. ⌜ now (store .exit) ≡ openStore (now (store .entry)) (record { c = c; p = p; d = d; b = b; route = now (route .entry) }) ⌝ }
+{
+    let opening = admission::open(store, c, p, d, b, route);
+    *responses = opening.responses;
+    *delays = opening.delays;
+    *reserved = opening.reserved;
+    let outcome = opening.outcome;
+    match outcome {
+        Outcome::Accepted(number) => {
+            *channel = number;
+            *place = 0;
+            0
+        }
+        Outcome::Refused(number, at) => {
+            *place = at;
             number
         }
     }
