@@ -1,6 +1,7 @@
 -- Laws of the definitions in specs/, for the crates above.
 pub mod Layout
 pub mod Folds
+pub mod Adding
 pub mod Amounts
 pub mod Sound
 pub mod Cleared

@@ -1,6 +1,7 @@
 -- What a channel has on a link of its route: document 01, "Opening" (reserved packets) and "A slot". A packet is never
 -- moved. A channel's packets are numbered over all its messages, and each place of the route has a count of those sent.
 use Prim.Native.Nat.{ℕ, zero, suc, _+_, _-_, _*_, _/_}
+use Rattle.kinds.specs.Ranges.{mostHorizon, mostC, mostP}
 use Rattle.room.specs.Layout.{Store, bOf, cOf, pOf, hopsOf, messagesOf, routeOf, delayOf, sentOf, endOf, horizonOf}
 
 -- "Reserved packets: on the first link B × C"
@@ -16,6 +17,10 @@ unfoldable pub reservedOf : Store → (c j : ℕ) → ℕ
 reservedOf w c zero = firstReserved (cOf w c) (bOf w c)
 reservedOf w c (suc j) =
     laterReserved (cOf w c) (pOf w c) (horizonOf w (routeOf w c j)) (delayOf w c j) (delayOf w c (suc j))
+
+-- a bound on either, numbers in range and delays at most p
+abbrev pub mostReserved : ℕ
+mostReserved = mostC * (1 + (mostHorizon + mostP + mostP))
 
 -- all packets accepted so far, and those delivered: sent on the last link of the route
 abbrev pub acceptedOf : Store → (c : ℕ) → ℕ

@@ -1,6 +1,5 @@
 -- Laws of the store's rows.
 pub mod Rows
-pub mod Adding
 pub mod Walk
 pub mod Counting
 pub mod Listed

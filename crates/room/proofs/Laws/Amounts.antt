@@ -1,12 +1,25 @@
--- A channel's amounts and a route's joins at place j, by whether j is the first place. Assumes nothing.
-use Prim.Native.Nat.{ℕ, zero, suc, _-_, _<_}
+-- A channel's amounts and a route's joins at place j, by whether j is the first place; and that what is reserved is bounded.
+-- Assumes nothing.
+use Prim.Native.Nat.{ℕ, zero, suc, _+_, _-_, _/_, _≤_, _<_}
 use mathlib.Core.Path.{_≡_, refl}
 use mathlib.Core.Bool.{true}
+use native.Mathlib.Nat.{mul-le-mul, div-le-self}
 use native.Mathlib.Omega.{arith}
 use lib.Dec.{eqb}
+use Rattle.kinds.specs.Ranges.{mostHorizon, mostC, mostP, mostB}
 use Rattle.room.specs.Layout.{Store, bOf, cOf, pOf, routeOf, delayOf, sentOf, horizonOf, fromOf, toOf}
-use Rattle.room.specs.Amounts.{firstReserved, laterReserved, reservedOf, acceptedOf, enteredOf}
+use Rattle.room.specs.Amounts.{firstReserved, laterReserved, mostReserved, reservedOf, acceptedOf, enteredOf}
 use Rattle.room.specs.Route.{joins}
+
+-- what is reserved is bounded
+module _ (c : ℕ) (m : c ≤ mostC) where
+  pub first-most : (b : ℕ) → b ≤ mostB → firstReserved c b ≤ mostReserved
+  first-most b n = omega (arith, mul-le-mul n m)
+
+  pub later-most : (p h d′ d : ℕ) → h ≤ mostHorizon → d′ ≤ mostP → d ≤ mostP → laterReserved c p h d′ d ≤ mostReserved
+  later-most p h d′ d x y z =
+      let t : 1 + (h + d′ + d - 2) / p ≤ 1 + (mostHorizon + mostP + mostP) = omega (arith, div-le-self (h + d′ + d - 2) p) in
+      mul-le-mul m t
 
 module _ (w : Store) (c : ℕ) where
   pub reserved-first : (j : ℕ) → j ≡ 0 → reservedOf w c j ≡ firstReserved (cOf w c) (bOf w c)

@@ -187,6 +187,17 @@ module _ (f : ℕ → ℕ) where
   sum-most most zero h = omega arith
   sum-most most (suc n) h = omega (arith, sum-most most n (λ i l. h i (omega arith)), h n (omega arith))
 
+  -- a part is at most the whole
+  pub sum-part : (n i : ℕ) → i < n → f i ≤ sumTo f n
+  unfolding sumTo
+  sum-part zero i h = absurd (omega arith)
+  sum-part (suc n) i h = below i n h (λ l. omega (arith, sum-part n i l)) (λ s. rw s (omega arith))
+
+pub sum-mono : (f g : ℕ → ℕ) (n : ℕ) → ((i : ℕ) → i < n → f i ≤ g i) → sumTo f n ≤ sumTo g n
+unfolding sumTo
+sum-mono f g zero h = omega arith
+sum-mono f g (suc n) h = omega (arith, sum-mono f g n (λ i l. h i (omega arith)), h n (omega arith))
+
 pub sum-same : (f g : ℕ → ℕ) (n : ℕ) → ((i : ℕ) → i < n → f i ≡ g i) → sumTo f n ≡ sumTo g n
 unfolding sumTo
 sum-same f g zero h = refl

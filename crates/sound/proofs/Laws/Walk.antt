@@ -1,39 +1,34 @@
 -- Going through the rows of a link: what is known of a row once the code has read it, test by test, and the invariant of the
 -- loop. Assumes nothing.
-use Prim.Native.Nat.{ℕ, zero, suc, _+_, _-_, _*_, _/_, _≤_, _<_}
+use Prim.Native.Nat.{ℕ, zero, suc, _+_, _≤_, _<_}
 use mathlib.Core.Path.{_≡_, refl, sym, _∙_}
 use mathlib.Core.Bool.{true, false}
-use native.Mathlib.Nat.{mul-le-mul, div-le-self}
+use native.Mathlib.Nat.{le-trans}
 use native.Mathlib.Numerals.{add-one}
 use native.Mathlib.Omega.{arith}
 use lib.Dec.{leb}
 use mir.Syntax.{w64}
 use mir.Val.{Fits}
 use borrow.Author.Tests.{lt-ltb, le-leb, lt-leb}
-use Rattle.kinds.specs.Ranges.{mostChannels, mostRows, mostHops, mostHorizon, mostC, mostP}
-use Rattle.room.specs.Layout.{Store, channelsOf, horizonOf, bufferOf, rowsOf, rowChannelOf, rowPlaceOf}
-use Rattle.room.specs.Layout.{pOf, hopsOf, routeOf, delayOf, sentOf}
-use Rattle.room.specs.Amounts.{reservedOf, enteredOf, heldOf}
+use Rattle.kinds.specs.Ranges.{mostChannels, mostRows, mostHops}
+use Rattle.room.specs.Layout.{Store, channelsOf, bufferOf, rowsOf, rowChannelOf, rowPlaceOf}
+use Rattle.room.specs.Layout.{pOf, hopsOf, delayOf, sentOf}
+use Rattle.room.specs.Amounts.{mostReserved, reservedOf, enteredOf, heldOf}
 use Rattle.room.specs.Sound.{rowStands, rowDelayOf, rowFollows, rowReservedOf, rowHolds, rowSound, rowsSound}
 use Rattle.room.specs.Ranged.{Ranged, Fit}
 use Rattle.room.proofs.Laws.Folds.{Passing, passing-none, passing-more, passing-done, every-false}
+use Rattle.room.proofs.Laws.Adding.{Adding, adding-none, adding-more, adding-fits, adding-done}
+use Rattle.room.proofs.Laws.Amounts.{first-most, later-most}
 use Rattle.room.proofs.Laws.Sound.{fit-ranged, fit-flows, row-is}
 use Rattle.sound.specs.Rows.{stands, follows}
-use Rattle.sound.proofs.Laws.Adding.{Adding, adding-none, adding-more, adding-fits, adding-done}
-
--- the most that is reserved for a row
-abbrev pub mostReserved : ℕ
-mostReserved = mostC * (1 + (mostHorizon + mostP + mostP))
 
 reserved-most : (w : Store) (c j : ℕ) → Ranged w c → j < hopsOf w c → reservedOf w c j ≤ mostReserved
 unfolding reservedOf
-reserved-most w c zero g h = omega (arith, mul-le-mul (g .b-most) (g .c-most))
+reserved-most w c zero g h = first-most _ (g .c-most) _ (g .b-most)
 reserved-most w c (suc j) g h =
     let hj : j < hopsOf w c = omega arith in
-    let a = horizonOf w (routeOf w c j) + delayOf w c j + delayOf w c (suc j) - 2 in
-    let x : 1 + a / pOf w c ≤ 1 + (mostHorizon + mostP + mostP) =
-    omega (arith, div-le-self a (pOf w c), g .horizon-most j hj, g .delay-most j hj, g .delay-most (suc j) h, g .p-most) in
-    mul-le-mul (g .c-most) x
+    later-most _ (g .c-most) (pOf w c) _ _ _ (g .horizon-most j hj) (le-trans (g .delay-most j hj) (g .p-most))
+    (le-trans (g .delay-most (suc j) h) (g .p-most))
 
 -- the delay and the channel of the row above row k, 0 above the first
 unfoldable pub delayAbove : Store → (l k : ℕ) → ℕ
