@@ -9,3 +9,5 @@ pub mod Written
 pub mod Row
 pub mod Rows
 pub mod Join
+pub mod Shares
+pub mod Delays

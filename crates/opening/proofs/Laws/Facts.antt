@@ -28,9 +28,13 @@ pub record Early (w : Store) (q : Request) : Type 0 where
   pub channels : channelsOf w < mostChannels
   pub room : (j : ℕ) → j < hops q → rowsOf w (link q j) < mostRows
 
+-- check 8 is passed
+abbrev pub Responds : Store → Request → Type 0
+Responds w q = (j : ℕ) → j < hops q → HasResponse (q .c) (rowsTo w (link q j) (position w (q .c) (q .p) (link q j))) (q .p)
+
 -- checks 8 to 10 are passed
 pub record Late (w : Store) (q : Request) : Type 0 where
-  pub responds : (j : ℕ) → j < hops q → HasResponse (q .c) (rowsTo w (link q j) (position w (q .c) (q .p) (link q j))) (q .p)
+  pub responds : Responds w q
   pub total : sumTo (responsesOf w q) (hops q) ≤ q .d
   pub fits : (j : ℕ) → j < hops q → takenOf w (link q j) + reservedFor w q j ≤ bufferOf w (link q j)
 
