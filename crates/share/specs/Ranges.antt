@@ -2,7 +2,7 @@
 use Prim.Native.Nat.{ℕ, _≤_, _<_}
 use mathlib.Core.List.{List}
 use lib.ListN.{length}
-use Rattle.kinds.specs.Ranges.{mostLinks, mostHorizon, mostHops, mostP}
+use Rattle.kinds.specs.Ranges.{mostHorizon, mostHops, mostP}
 use Rattle.room.specs.Layout.{Store, Long, numberAt, horizonOf}
 use Rattle.room.specs.Route.{from, Known}
 

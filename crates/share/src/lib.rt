@@ -1,15 +1,15 @@
-// How the asked delay is shared out along a route, and the packets reserved for it: document 01, "Opening". Arrays have a number for
-// each place of the route.
-use room::channel;
+// How the asked delay is shared out along a route, and the packets reserved for it: document 01, "Opening". Arrays have a
+// number for each place of the route.
 use room::link;
 ghost use mathlib.Core.Path.{_≡_};
 ghost use mathlib.Core.Bool.{true};
 ghost use Prim.Native.Nat.{_≤_, _<_};
 ghost use lib.ListN.{length};
-ghost use Rattle.kinds.specs.Ranges.{mostLinks, mostHorizon, mostHops, mostC, mostP, mostD, mostB};
-ghost use Rattle.room.specs.Layout.{Long, numberAt, linksOf};
+ghost use Rattle.kinds.specs.Ranges.{mostHops, mostC, mostP, mostD, mostB};
+ghost use Rattle.room.specs.Layout.{numberAt, linksOf};
 ghost use Rattle.room.specs.Folds.{every, firstNot, sumTo};
 ghost use Rattle.room.specs.Route.{from, exists};
+ghost use Rattle.room.specs.Amounts.{mostReserved};
 ghost use Rattle.room.specs.Sound.{soundOf};
 ghost use Rattle.opening.specs.Shares.{delays as delaysOf, reserved as reservedOf, takenOf, fitsBuffer, eight};
 ghost use Rattle.share.specs.Ranges.{AllUpTo, Places};
@@ -68,7 +68,8 @@ fn reserved_at(
     requires { ⌜ j < length (now route) ⌝ }
     requires { ⌜ c ≤ mostC ⌝ }
     requires { ⌜ b ≤ mostB ⌝ }
-    ensures { λ r. ⌜ r ≡ reservedOf (now (store .entry)) c p b (from (now (route .entry)) 0) (numberAt (now (delays .entry))) j ⌝ }
+    ensures { λ r. ⌜ r ≡ reservedOf (now (store .entry)) c p b (from (now (route .entry)) 0)
+        (numberAt (now (delays .entry))) j ⌝ }
 {
     if j == 0 {
         return b * c;
@@ -85,7 +86,8 @@ pub fn reserved(store: &[u64], c: u64, p: u64, b: u64, route: &[u64], delays: &[
     requires { ⌜ Places (now store) p (now route) (now delays) ⌝ }
     requires { ⌜ c ≤ mostC ⌝ }
     requires { ⌜ b ≤ mostB ⌝ }
-    ensures { λ r. ⌜ r ≡ eight (reservedOf (now (store .entry)) c p b (from (now (route .entry)) 0) (numberAt (now (delays .entry)))) (length (now (route .entry))) ⌝ }
+    ensures { λ r. ⌜ r ≡ eight (reservedOf (now (store .entry)) c p b (from (now (route .entry)) 0)
+        (numberAt (now (delays .entry)))) (length (now (route .entry))) ⌝ }
 {
     let mut packets = [0u64; 8];
     let mut j: usize = 0;
@@ -121,8 +123,9 @@ pub fn full_link(store: &[u64], route: &[u64], reserved: &[u64; 8]) -> usize
     requires { ⌜ soundOf (now store) ≡ true ⌝ }
     requires { ⌜ length (now route) ≤ mostHops ⌝ }
     requires { ⌜ every (exists (now store) (from (now route) 0)) (length (now route)) ≡ true ⌝ }
-    requires { ⌜ AllUpTo (now reserved) (length (now route)) 1_000_000 ⌝ }
-    ensures { λ r. ⌜ r ≡ firstNot (fitsBuffer (now (store .entry)) (from (now (route .entry)) 0) (numberAt (now (reserved .entry)))) (length (now (route .entry))) ⌝ }
+    requires { ⌜ AllUpTo (now reserved) (length (now route)) mostReserved ⌝ }
+    ensures { λ r. ⌜ r ≡ firstNot (fitsBuffer (now (store .entry)) (from (now (route .entry)) 0)
+        (numberAt (now (reserved .entry)))) (length (now (route .entry))) ⌝ }
 {
     let n = route.len();
     let mut j: usize = 0;
