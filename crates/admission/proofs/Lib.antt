@@ -1,2 +1,3 @@
 mod Tests
 mod Outcome
+pub mod Laws

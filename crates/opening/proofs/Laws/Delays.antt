@@ -1,48 +1,24 @@
 -- The delays that an open gives: on each link 1 ≤ r ≤ d ≤ p, and the sum of d is at most D. Assumes nothing.
 use Prim.Native.Nat.{ℕ, zero, suc, _≤_, _<_}
-use mathlib.Core.Path.{_≡_, refl}
-use mathlib.Core.Bool.{Bool, true, false}
-use mathlib.Core.List.{List, [], _∷_, _++_}
 use native.Mathlib.Nat.{le-trans}
 use native.Mathlib.Omega.{arith}
 use Rattle.kinds.specs.Ranges.{mostP}
-use Rattle.response.specs.declared.Row.{Row}
-use Rattle.response.specs.Need.{need, Spaced}
+use Rattle.response.specs.Need.{need}
 use Rattle.response.specs.Right.{Least}
 use Rattle.response.proofs.Laws.Trials.{found-least}
 use Rattle.room.specs.Folds.{sumTo}
-use Rattle.room.specs.Layout.{Store, linksOf, rowsOf}
+use Rattle.room.specs.Layout.{Store, rowsOf}
 use Rattle.room.specs.Amounts.{mostReserved}
 use Rattle.room.proofs.Laws.Amounts.{first-most, later-most}
-use Rattle.room.proofs.Laws.Sound.{Sound, sound-is}
+use Rattle.room.proofs.Laws.Sound.{sound-is}
 use Rattle.opening.specs.Request.{Request, hops, link}
-use Rattle.opening.specs.Search.{rowsTo, smallest, position, hasResponse}
+use Rattle.opening.specs.Search.{rowsTo, position, hasResponse}
 use Rattle.opening.specs.Shares.{reserved}
 use Rattle.opening.specs.Refusal.{responsesOf, delaysOf, reservedFor}
 use Rattle.opening.proofs.Laws.Facts.{Early, Responds}
+use Rattle.opening.proofs.Laws.Search.{smallest-is}
+use Rattle.opening.proofs.Laws.Ranged.{ranged-spaced, rows-ranged}
 use Rattle.opening.proofs.Laws.Shares as shares
-
-smallest-most : (f : ℕ → Bool) (n : ℕ) → smallest f n ≤ n
-unfolding smallest
-smallest-most f zero = omega arith
-smallest-most f (suc k) = go (f k) refl (smallest-most f k)
-  where
-    go : (t : Bool) → f k ≡ t → smallest f k ≤ k → smallest f (suc k) ≤ suc k
-    go true e h = rw (e, smallest) (omega arith)
-    go false e h = rw (e, smallest) (omega arith)
-
-spaced-more : (xs : List Row) (x : Row) → Spaced xs → 1 ≤ x .p → Spaced (xs ++ (x ∷ []))
-spaced-more [] x s h = (h, tt)
-spaced-more (y ∷ ys) x s h = (s .0, spaced-more ys x (s .1) h)
-
--- every row of a sound store has a p of at least 1
-module _ (w : Store) (s : Sound w) (l : ℕ) (h : l < linksOf w) where
-  rows-spaced : (n : ℕ) → n ≤ rowsOf w l → Spaced (rowsTo w l n)
-  unfolding rowsTo
-  rows-spaced zero m = tt
-  rows-spaced (suc k) m =
-      let x = s .channel _ (s .rows l h .rows k (omega arith) .channel) in
-      spaced-more (rowsTo w l k) _ (rows-spaced k (omega arith)) (x .good .p-least)
 
 module _ (w : Store) (q : Request) (e : Early w q) where
   delay-most : (j : ℕ) → delaysOf w q j ≤ mostP
@@ -62,8 +38,8 @@ module _ (w : Store) (q : Request) (e : Early w q) where
     response-is j h =
         let l = link q j in
         let a = f j h in
-        let sp = rows-spaced w (sound-is w (e .sound)) l (e .route .known j h) (position w (q .c) (q .p) l)
-        (smallest-most (hasResponse w (q .c) (q .p) l) (rowsOf w l)) in
+        let inside = smallest-is (hasResponse w (q .c) (q .p) l) (rowsOf w l) .most in
+        let sp = ranged-spaced _ (rows-ranged w (sound-is w (e .sound)) l (e .route .known j h) (position w (q .c) (q .p) l) inside) in
         rw (a .found) (found-least _ _ _ (e .good .c-least) sp (a .length) (a .trials) (a .found))
 
     module _ (j : ℕ) (h : j < hops q) where

@@ -5,8 +5,9 @@ use mathlib.Core.Bool.{true, and-eq-true-iff}
 use mathlib.Core.List.{List, [], _∷_, _++_}
 use native.Mathlib.Omega.{arith}
 use Rattle.kinds.specs.Ranges.{mostLinks, mostChannels, mostHops, mostRows, mostC, mostP, inRangeC, inRangeP}
-use Rattle.kinds.proofs.Laws.{true-within}
+use Rattle.kinds.proofs.Laws.{true-within, within-true}
 use Rattle.response.specs.declared.Row.{Row}
+use Rattle.response.specs.Need.{Spaced}
 use Rattle.response.specs.Numbers.{rowInRange, rowsInRange}
 use Rattle.room.specs.Layout.{Store, linksOf, rowsOf, rowChannelOf, rowPlaceOf}
 use Rattle.room.proofs.Laws.Sound.{Sound, ChannelIs}
@@ -18,6 +19,14 @@ ranged-more [] x e h = rw h
 ranged-more (y ∷ xs) x e h =
     let b = and-eq-true-iff (rowInRange y) (rowsInRange xs) .0 e in
     rw (b .0) (ranged-more xs x (b .1) h)
+
+pub ranged-spaced : (xs : List Row) → rowsInRange xs ≡ true → Spaced xs
+unfolding rowsInRange
+ranged-spaced [] e = tt
+ranged-spaced (x ∷ xs) e =
+    let b = and-eq-true-iff (rowInRange x) (rowsInRange xs) .0 e in
+    let p = and-eq-true-iff (inRangeC (x .c)) (inRangeP (x .p)) .0 (b .0) in
+    (within-true 1 mostP (x .p) (p .1) .0, ranged-spaced xs (b .1))
 
 module _ (w : Store) (s : Sound w) (l : ℕ) (h : l < linksOf w) where
   pub link-most : l < mostLinks
