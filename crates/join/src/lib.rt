@@ -1,21 +1,23 @@
 // What an accepted open writes: document 01, "Opening". The new channel's record, and its row on each link of its route.
 use room::channel;
+use room::head;
 use room::link;
 ghost use mathlib.Core.Path.{_≡_};
-ghost use Prim.Native.Nat.{_-_, _≤_, _<_};
+ghost use Prim.Native.Nat.{_+_, _-_, _≤_, _<_};
 ghost use lib.ListN.{length};
-ghost use Rattle.kinds.specs.Ranges.{mostLinks, mostChannels, mostHops};
-ghost use Rattle.room.specs.Layout.{Long, numberAt, rowsOf, routeOf, delayOf};
+ghost use Rattle.kinds.specs.Ranges.{mostChannels, mostHops};
+ghost use Rattle.room.specs.Layout.{Long, numberAt, rowsOf, routeOf, delayOf, withChannels};
 ghost use Rattle.room.specs.Route.{from};
 ghost use Rattle.opening.specs.Join.{placesWritten, channelWritten, rowsBefore, rowPut, rowJoined, rowsJoined};
-ghost use Rattle.join.specs.Ready.{Rows, Ready};
+ghost use Rattle.join.specs.Ready.{Rows, Ready, Enterable};
 
 // The first `route.len()` links of channel `x`'s route, and the delay on each.
 fn put_places(store: &mut [u64], x: usize, route: &[u64], delays: &[u64; 8])
     requires { ⌜ Long (now store) ⌝ }
     requires { ⌜ x < mostChannels ⌝ }
     requires { ⌜ length (now route) ≤ mostHops ⌝ }
-    ensures { λ _. ⌜ now (store .exit) ≡ placesWritten (now (store .entry)) x (from (now (route .entry)) 0) (numberAt (now (delays .entry))) (length (now (route .entry))) ⌝ }
+    ensures { λ _. ⌜ now (store .exit) ≡ placesWritten (now (store .entry)) x (from (now (route .entry)) 0)
+        (numberAt (now (delays .entry))) (length (now (route .entry))) ⌝ }
 {
     let mut j: usize = 0;
     while j < route.len() {
@@ -26,7 +28,7 @@ fn put_places(store: &mut [u64], x: usize, route: &[u64], delays: &[u64; 8])
 }
 
 // The record of channel `x`: what was asked for, and the delay on each link.
-pub fn put_channel(
+fn put_channel(
     store: &mut [u64],
     x: usize,
     c: u64,
@@ -57,18 +59,18 @@ fn rows_before(store: &[u64], l: usize, d: u64) -> usize
     ensures { λ r. ⌜ r ≡ rowsBefore (now (store .entry)) l d ⌝ }
 {
     let rows = link::rows(store, l);
-    let mut k: usize = 0;
-    while k < rows {
+    let mut above: usize = 0;
+    while above < rows {
         if channel::delay(
             store,
-            link::row_channel(store, l, k),
-            link::row_place(store, l, k),
+            link::row_channel(store, l, above),
+            link::row_place(store, l, above),
         )
             > d
         {
-            return k;
+            return above;
         }
-        k += 1;
+        above += 1;
     }
     rows
 }
@@ -101,7 +103,8 @@ fn join_row(store: &mut [u64], x: usize, j: usize)
     requires { ⌜ x < mostChannels ⌝ }
     requires { ⌜ j < mostHops ⌝ }
     requires { ⌜ Rows (now store) (routeOf (now store) x j) ⌝ }
-    ensures { λ _. ⌜ now (store .exit) ≡ rowJoined (now (store .entry)) (routeOf (now (store .entry)) x j) (delayOf (now (store .entry)) x j) x j ⌝ }
+    ensures { λ _. ⌜ now (store .exit) ≡ rowJoined (now (store .entry)) (routeOf (now (store .entry)) x j)
+        (delayOf (now (store .entry)) x j) x j ⌝ }
 {
     let l = channel::route(store, x, j);
     let rows = link::rows(store, l);
@@ -111,8 +114,8 @@ fn join_row(store: &mut [u64], x: usize, j: usize)
 }
 
 // The rows of channel `x` join the order of each of the `n` links of its route.
-pub fn join_rows(store: &mut [u64], x: usize, n: usize)
-    requires { ⌜ Ready (now store) x n ⌝ }
+fn join_rows(store: &mut [u64], x: usize, n: usize)
+    requires { ⌜ Ready (now store) x (routeOf (now store) x) n ⌝ }
     ensures { λ _. ⌜ now (store .exit) ≡ rowsJoined (now (store .entry)) x n ⌝ }
 {
     let mut j: usize = 0;
@@ -120,4 +123,25 @@ pub fn join_rows(store: &mut [u64], x: usize, n: usize)
         join_row(store, x, j);
         j += 1;
     }
+}
+
+// Channel `x` is opened: its record, its row on each link of its route, and one channel more.
+pub fn enter(
+    store: &mut [u64],
+    x: usize,
+    c: u64,
+    p: u64,
+    d: u64,
+    b: u64,
+    route: &[u64],
+    delays: &[u64; 8],
+)
+    requires { ⌜ Enterable (now store) (record { c = c; p = p; d = d; b = b; route = now route }) x ⌝ }
+    ensures { λ _. ⌜ now (store .exit) ≡ withChannels (rowsJoined (channelWritten (now (store .entry)) x
+        (record { c = c; p = p; d = d; b = b; route = now (route .entry) }) (numberAt (now (delays .entry))))
+        x (length (now (route .entry)))) (x + 1) ⌝ }
+{
+    put_channel(store, x, c, p, d, b, route, delays);
+    join_rows(store, x, route.len());
+    head::put_channels(store, x + 1);
 }

@@ -18,7 +18,7 @@ RowAt w l k x j = (rowChannelOf w l k ≡ x) × (rowPlaceOf w l k ≡ j)
 
 -- one row written
 module _ (w : Store) (l k x j : ℕ) where
-  row-length : length (withRow w l k x j) ≡ length w
+  pub row-length : length (withRow w l k x j) ≡ length w
   row-length = simp length-set
 
   pub row-beside : (at : ℕ) → (at ≡ rowChannelAt l k → ⊥) → (at ≡ rowPlaceAt l k → ⊥)

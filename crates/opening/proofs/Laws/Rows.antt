@@ -137,6 +137,13 @@ module _ (w : Store) (x : ℕ) where
       next-beside n ready (rows-beside n (fewer n ready)) at (h n (omega arith))
       ∙ rows-beside n (fewer n ready) at (λ j l. h j (omega arith))
 
+  -- the next link, and its rows, before a row joins them
+  pub next-link : (n : ℕ) → Joinable w x (suc n) → routeOf (rowsJoined w x n) x n ≡ routeOf w x n
+  next-link n ready = rows-beside n (fewer n ready) (routeAt x n) (beyond n (fewer n ready) (routeAt x n) (omega arith))
+
+  pub next-rows : (n : ℕ) → Joinable w x (suc n) → SameRows (rowsJoined w x n) w (routeOf w x n)
+  next-rows n ready = last-rows n ready (rows-beside n (fewer n ready))
+
   pub rows-joined : (n : ℕ) → Joinable w x n → (j : ℕ) → j < n
       → Joined w (rowsJoined w x n) (routeOf w x j) (rowsBefore w (routeOf w x j) (delayOf w x j)) x j
   rows-joined zero ready j h = absurd (omega arith)
