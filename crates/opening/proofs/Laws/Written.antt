@@ -192,3 +192,15 @@ module _ (w : Store) (x : ℕ) (q : Request) (d : ℕ → ℕ) where
 
       pub channel-end : endOf whole x 0 ≡ 0
       channel-end = channel-zero (endAt x 0) 56 (omega arith) (omega arith) (λ a. omega arith) (λ a b. omega arith)
+
+-- only the delays along the route are looked at
+places-same : (w : Store) (x : ℕ) (route d e : ℕ → ℕ) (n : ℕ) → ((j : ℕ) → j < n → d j ≡ e j)
+    → placesWritten w x route d n ≡ placesWritten w x route e n
+unfolding placesWritten
+places-same w x route d e zero h = refl
+places-same w x route d e (suc n) h = rw (places-same w x route d e n (λ j l. h j (omega arith)), h n (omega arith))
+
+pub channel-same : (w : Store) (x : ℕ) (q : Request) (d e : ℕ → ℕ) → ((j : ℕ) → j < hops q → d j ≡ e j)
+    → channelWritten w x q d ≡ channelWritten w x q e
+unfolding channelWritten
+channel-same w x q d e h = places-same (numbersWritten (cleared w x recordLength) x q) x (link q) d e (hops q) h
