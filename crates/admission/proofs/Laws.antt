@@ -1,36 +1,43 @@
 -- What the answer to an open says, for the crates above. Assumes nothing.
-use Prim.Native.Nat.{ℕ}
-use mathlib.Core.Path.{_≡_, refl, sym, _∙_}
+use Prim.Native.Nat.{ℕ, _+_, _<_}
+use mathlib.Core.Path.{_≡_, sym, _∙_, ap}
 use mathlib.Core.Bool.{true}
+use mathlib.Core.List.{List}
 use native.Mathlib.Omega.{arith}
 use lib.ListN.{take, drop}
-use Rattle.room.specs.Layout.{Store, channelsOf}
+use Rattle.room.specs.Layout.{Store, numberAt, channelsOf, withChannels}
 use Rattle.room.specs.Sound.{soundOf}
 use Rattle.opening.specs.declared.Outcome.the-variants.{Accepted, Refused}
-use Rattle.opening.specs.Request.{Request}
+use Rattle.opening.specs.Request.{Request, hops}
+use Rattle.opening.specs.Shares.{eight}
+use Rattle.opening.specs.Join.{channelWritten, rowsJoined}
 use Rattle.opening.specs.Refusal.{earlyChecks, lateChecks, delaysOf, opened}
-use Rattle.opening.specs.Open.{openOutcome, openStore}
+use Rattle.opening.specs.Open.{openOutcome, openAnswer, openStore}
 use Rattle.opening.proofs.Laws.Checks.{AllHold, failed-append, all-passed, accepted-all, hold-append, clear-passed}
 use Rattle.opening.proofs.Laws.Facts.{Early, Late, After}
 use Rattle.opening.proofs.Laws.Passed.{early-is, late-is}
 use Rattle.opening.proofs.Laws.Delays.{delay-least, delay-within}
+use Rattle.opening.proofs.Laws.Eight.{eight-at}
+use Rattle.opening.proofs.Laws.Written.{channel-same}
 use Rattle.opening.proofs.Laws.Join.{opened-after}
 use Rattle.kept.proofs.Sound.{open-sound}
-use Rattle.admission.proofs.Outcome.{store-accepted}
+use Rattle.admission.proofs.Outcome.{answer-accepted, store-accepted, all-accepted}
 
 module _ (w : Store) (q : Request) where
   -- Where the other checks hold, the store after the open is sound: the last check need not be looked at.
   module _ (early : AllHold (earlyChecks w q)) (late : AllHold (take 3 (lateChecks w q))) where
-    e : Early w q
-    e = early-is w q early
+    facts : Early w q
+    facts = early-is w q early
 
-    l : Late w q
-    l = late-is w q late
+    found : Late w q
+    found = late-is w q late
 
     sound-after : soundOf (opened w q) ≡ true
     sound-after =
-        open-sound w (opened w q) q (delaysOf w q) e (opened-after w q e) (delay-least w q e (l .responds))
-        (delay-within w q e (l .responds)) (l .fits)
+        open-sound w (opened w q) q (delaysOf w q) facts (opened-after w q facts)
+        (delay-least w q facts (found .responds))
+        (delay-within w q facts (found .responds))
+        (found .fits)
 
     pub all-late : AllHold (lateChecks w q)
     all-late = (late .0, (late .1 .0, (late .1 .1 .0, (sound-after, tt))))
@@ -56,6 +63,10 @@ module _ (w : Store) (q : Request) where
     unfolding openOutcome
     holds = hold-append (earlyChecks w q) (lateChecks w q) (accepted-all _ _ _ a)
 
+    -- "numbered from 0 as opened"
+    pub accepted-number : x ≡ channelsOf w
+    accepted-number = cc (a, all-accepted w q (holds .0) (holds .1))
+
     pub accepted-early : Early w q
     accepted-early = early-is w q (holds .0)
 
@@ -67,3 +78,13 @@ module _ (w : Store) (q : Request) where
 
     pub accepted-sound : soundOf (openStore w q) ≡ true
     accepted-sound = rw (sym (store-accepted w q a)) (holds .1 .1 .1 .1 .0)
+
+    -- what is written with the delays of the answer
+    pub accepted-written : (delays : List ℕ) → delays ≡ openAnswer w q .delays
+        → withChannels (rowsJoined (channelWritten w x q (numberAt delays)) x (hops q)) (x + 1) ≡ openStore w q
+    unfolding opened
+    accepted-written delays same =
+        let are : delays ≡ eight (delaysOf w q) (hops q) = same ∙ ap (λ o. o .delays) (sym (answer-accepted w q a)) in
+        let at : (j : ℕ) → j < hops q → numberAt delays j ≡ delaysOf w q j =
+        λ j h. rw are (eight-at (delaysOf w q) (hops q) j h (accepted-early .hops-most)) in
+        rw (accepted-number, channel-same w (channelsOf w) q (numberAt delays) (delaysOf w q) at) (store-accepted w q a)

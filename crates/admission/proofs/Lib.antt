@@ -1,3 +1,4 @@
 mod Tests
 mod Outcome
+mod Steps
 pub mod Laws

@@ -1,10 +1,11 @@
 -- From the checks to the answer and the store after it. Assumes nothing.
 use Prim.Native.Nat.{ℕ}
-use mathlib.Core.Path.{_≡_, sym, _∙_}
+use mathlib.Core.Path.{_≡_, refl, sym, _∙_}
 use mathlib.Core.Bool.{false}
 use mathlib.Core.List.{List, _∷_}
 use lib.ListN.{take, drop}
 use Rattle.room.specs.Layout.{Store, channelsOf}
+use Rattle.opening.specs.declared.Outcome.{Outcome}
 use Rattle.opening.specs.declared.Outcome.the-variants.{Accepted, Refused}
 use Rattle.opening.specs.Request.{Request}
 use Rattle.opening.specs.Refusal.{Check, firstFailed, earlyChecks, lateChecks, opened}
@@ -12,6 +13,15 @@ use Rattle.opening.specs.Open.{refusal, answerOn, openOutcome, openAnswer, open
 use Rattle.opening.proofs.Laws.Checks.{AllHold, failed-append, all-passed, fails-after, refused-any}
 
 module _ (w : Store) (q : Request) where
+  -- the answer has the outcome
+  pub outcome-is : openAnswer w q .outcome ≡ openOutcome w q
+  unfolding openAnswer
+  outcome-is = go (openOutcome w q) refl
+    where
+      go : (o : Outcome) → openOutcome w q ≡ o → openAnswer w q .outcome ≡ openOutcome w q
+      go (Accepted x) e = rw (e, openAnswer)
+      go (Refused number place) e = rw (e, openAnswer)
+
   -- a refusal
   module _ {number place : ℕ} (e : openOutcome w q ≡ Refused number place) where
     pub answer-refused : refusal number place ≡ openAnswer w q

@@ -18,7 +18,7 @@ ghost use Rattle.room.specs.Folds.{firstNot};
 ghost use Rattle.room.specs.Route.{from, Known};
 ghost use Rattle.opening.specs.declared.Outcome.the-variants.{Accepted, Refused};
 ghost use Rattle.opening.specs.Refusal.{hasRoom, firstFailed, earlyChecks};
-ghost use Rattle.opening.specs.Open.{openAnswer, openStore};
+ghost use Rattle.opening.specs.Open.{refusal, openAnswer, openStore};
 
 // A refusal: 0 beside it.
 fn refused(number: u64, place: u64) -> Opening

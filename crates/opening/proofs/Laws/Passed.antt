@@ -6,6 +6,7 @@ use lib.ListN.{take}
 use borrow.Author.Tests.{leb-true, ltb-true}
 use Rattle.kinds.specs.Ranges.{mostHops}
 use Rattle.kinds.proofs.Laws.{within-true, channel-bounds}
+use Rattle.room.specs.Folds.{every}
 use Rattle.room.specs.Layout.{Store}
 use Rattle.room.proofs.Laws.Folds.{every-at}
 use Rattle.room.proofs.Laws.Sound.{route-is}
@@ -13,7 +14,7 @@ use Rattle.opening.specs.Request.{Request, hops, link}
 use Rattle.opening.specs.Search.{responds}
 use Rattle.opening.specs.Shares.{fitsBuffer}
 use Rattle.opening.specs.Refusal.{hasRoom, earlyChecks, lateChecks, reservedFor}
-use Rattle.opening.proofs.Laws.Facts.{Early, Late}
+use Rattle.opening.proofs.Laws.Facts.{Early, Responds, Late}
 use Rattle.opening.proofs.Laws.Checks.{AllHold}
 use Rattle.opening.proofs.Laws.Search.{found-response}
 
@@ -37,10 +38,13 @@ module _ (w : Store) (q : Request) where
         room = λ j k. ltb-true _ _ (every-at (hasRoom w (link q)) (hops q) (places .1 .0) j k);
       }
 
+  pub responds-is : every (responds w (q .c) (q .p) (link q)) (hops q) ≡ true → Responds w q
+  responds-is h j k = found-response _ _ _ (every-at (responds w (q .c) (q .p) (link q)) (hops q) h j k)
+
   pub late-is : AllHold (take 3 (lateChecks w q)) → Late w q
   late-is h =
       record {
-        responds = λ j k. found-response _ _ _ (every-at (responds w (q .c) (q .p) (link q)) (hops q) (h .0) j k);
+        responds = responds-is (h .0);
         total = leb-true _ _ (h .1 .0);
         fits = λ j k. leb-true _ _ (every-at (fitsBuffer w (link q) (reservedFor w q)) (hops q) (h .1 .1 .0) j k);
       }
