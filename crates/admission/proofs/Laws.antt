@@ -1,6 +1,6 @@
 -- What the answer to an open says, for the crates above. Assumes nothing.
 use Prim.Native.Nat.{ℕ, _+_, _<_}
-use mathlib.Core.Path.{_≡_, sym, _∙_, ap}
+use mathlib.Core.Path.{_≡_, refl, sym, _∙_, ap}
 use mathlib.Core.Bool.{true}
 use mathlib.Core.List.{List}
 use native.Mathlib.Omega.{arith}
@@ -13,7 +13,7 @@ use Rattle.opening.specs.Shares.{eight}
 use Rattle.opening.specs.Join.{channelWritten, rowsJoined}
 use Rattle.opening.specs.Refusal.{earlyChecks, lateChecks, delaysOf, opened}
 use Rattle.opening.specs.Open.{openOutcome, openAnswer, openStore}
-use Rattle.opening.proofs.Laws.Checks.{AllHold, failed-append, all-passed, accepted-all, hold-append, clear-passed}
+use Rattle.opening.proofs.Laws.Checks.{AllHold, failed-append, all-passed, accepted-all, hold-append, clear-other, clear-passed}
 use Rattle.opening.proofs.Laws.Facts.{Early, Late, After}
 use Rattle.opening.proofs.Laws.Passed.{early-is, late-is}
 use Rattle.opening.proofs.Laws.Delays.{delay-least, delay-within}
@@ -48,10 +48,10 @@ module _ (w : Store) (q : Request) where
   never-17 s place e =
       let x = channelsOf w in
       let first = clear-passed 17 place (earlyChecks w q) _
-      ((λ _. s), ((λ n. absurd (omega arith)), ((λ n. absurd (omega arith)), ((λ n. absurd (omega arith)), ((λ n. absurd (omega arith)), ((λ n. absurd (omega arith)), ((λ n. absurd (omega arith)), ((λ n. absurd (omega arith)), ((λ n. absurd (omega arith)), tt)))))))))
+      ((λ _. s), clear-other 17 (drop 1 (earlyChecks w q)) refl)
       (sym (failed-append (earlyChecks w q) (lateChecks w q) (Accepted x)) ∙ e) in
       let second = clear-passed 17 place (take 3 (lateChecks w q)) _
-      ((λ n. absurd (omega arith)), ((λ n. absurd (omega arith)), ((λ n. absurd (omega arith)), tt)))
+      (clear-other 17 (take 3 (lateChecks w q)) refl)
       (sym (failed-append (take 3 (lateChecks w q)) (drop 3 (lateChecks w q)) (Accepted x)) ∙ first .1) in
       let passed = all-passed (drop 3 (lateChecks w q)) (Accepted x) (all-late (first .0) (second .0) .1 .1 .1) in
       let z : _≡_ {A = ℕ} 0 1 = cc (passed, second .1) in

@@ -1,10 +1,12 @@
 -- A list of checks: the first that fails answers, whatever comes after it. Assumes nothing.
 use Prim.Native.Nat.{ℕ, zero, suc}
 use mathlib.Core.Path.{_≡_, refl, sym, _∙_}
-use mathlib.Core.Bool.{Bool, true, false}
+use mathlib.Core.Bool.{Bool, true, false, _||_}
 use mathlib.Core.List.{List, [], _∷_, _++_}
 use native.Mathlib.Omega.{arith}
+use lib.Dec.{eqb}
 use lib.ListN.{take, drop}
+use borrow.Author.Tests.{eqb-false}
 use Rattle.opening.specs.declared.Outcome.{Outcome}
 use Rattle.opening.specs.declared.Outcome.the-variants.{Accepted, Refused}
 use Rattle.opening.specs.Refusal.{Check, firstFailed}
@@ -86,6 +88,20 @@ hold-append (x ∷ front) back h = let r : _ = hold-append front back (h .1) in 
 abbrev pub Clear : (number : ℕ) → List Check → Type 0
 Clear number [] = Unit {0}
 Clear number (x ∷ rest) = (x .number ≡ number → x .holds ≡ true) × Clear number rest
+
+-- where none of them has the number
+abbrev pub mentions : (number : ℕ) → List Check → Bool
+mentions number [] = false
+mentions number (x ∷ rest) = eqb (x .number) number || mentions number rest
+
+pub clear-other : (number : ℕ) (checks : List Check) → mentions number checks ≡ false → Clear number checks
+clear-other number [] e = tt
+clear-other number (x ∷ rest) e = go (eqb (x .number) number) refl e (clear-other number rest)
+  where
+    go : (t : Bool) → eqb (x .number) number ≡ t → (t || mentions number rest) ≡ false
+        → (mentions number rest ≡ false → Clear number rest) → Clear number (x ∷ rest)
+    go true h f r = absurd (let z : _≡_ {A = ℕ} 0 1 = cc f in omega arith)
+    go false h f r = ((λ n. absurd (eqb-false (x .number) number h n)), r f)
 
 pub clear-passed : (number place : ℕ) (checks : List Check) (passed : Outcome) → Clear number checks
     → firstFailed checks passed ≡ Refused number place → AllHold checks × (passed ≡ Refused number place)
