@@ -81,16 +81,25 @@ pub extern "C" fn byanghosu_open(
     reserved: &mut [u64; 8],
     place: &mut u64,
 ) -> u64
-    ensures { λ r. ⌜ record { number = r; place = now (place .exit); channel = now (channel .exit); responses = now (responses .exit);
-        delays = now (delays .exit); reserved = now (reserved .exit) }
+    ensures { λ r. ⌜ record {
+      number = r;
+      place = now (place .exit);
+      channel = now (channel .exit);
+      responses = now (responses .exit);
+      delays = now (delays .exit);
+      reserved = now (reserved .exit);
+    }
         ≡ openValues (openAnswer (now (store .entry)) (record { c = c; p = p; d = d; b = b; route = now (route .entry) })) (now (channel .entry)) ⌝ }
     ensures { λ _. ⌜ now (store .exit) ≡ openStore (now (store .entry)) (record { c = c; p = p; d = d; b = b; route = now (route .entry) }) ⌝ }
 {
     let opening = admission::open(store, c, p, d, b, route);
-    *responses = opening.responses;
-    *delays = opening.delays;
-    *reserved = opening.reserved;
     let outcome = opening.outcome;
+    let r = opening.responses;
+    *responses = r;
+    let d = opening.delays;
+    *delays = d;
+    let packets = opening.reserved;
+    *reserved = packets;
     match outcome {
         Outcome::Accepted(number) => {
             *channel = number;

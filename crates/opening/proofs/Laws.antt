@@ -11,3 +11,4 @@ pub mod Rows
 pub mod Join
 pub mod Shares
 pub mod Delays
+pub mod Values
