@@ -1,8 +1,8 @@
 /* Byanghosu: what the router's control board calls. Numbers and lent buffers only.
  *
  * Every call but `byanghosu_sound` returns the refusal number of document 01, or 0 where it ran. A refused call writes no
- * output but `place`, the place that the refusal names (0 where none is named); a call that ran sets it to 0. No pointer
- * may be null, and no two lent buffers of one call may overlap. */
+ * output but `place`, the place that the refusal names (0 where none is named), and an open's numbers per link, all 0; a
+ * call that ran sets `place` to 0. No pointer may be null, and no two lent buffers of one call may overlap. */
 #ifndef BYANGHOSU_H
 #define BYANGHOSU_H
 
@@ -27,6 +27,27 @@ uint64_t byanghosu_set_up(uint64_t *store, size_t length, const uint64_t *links,
 /* Whether a store is sound, as docs/STORE.md says. Any numbers may stand in it, and it may have any length. Nothing is
  * written. Set-up leaves a sound store. */
 bool byanghosu_sound(const uint64_t *store, size_t length);
+
+/* Opening a channel.
+ *
+ * store     what set-up and the calls since have left; `length` numbers. A channel that is opened stands in it from now on
+ * c, p      most packets in a message (1 to 200); least spacing of messages, in slots (1 to 60,000)
+ * d, b      asked end-to-end delay, in slots (1 to 480,000); burst, in messages (1 to 16)
+ * route     the links that it goes over, in their order; `hops` of them, 1 to 8
+ * channel   the new channel's number; channels are numbered from 0 as opened
+ * responses the response found on each link of the route
+ * delays    the delay given to it there, which is its bound for every message
+ * reserved  the packets reserved for it there
+ *
+ * The last three have 8 numbers each, 0 past the end of the route. Returns, in the order in which they are looked at: 17 for
+ * a store that is not sound, 14 for a clock at the end slot, 1 for c, p, d or b out of range, 2 for 0 or more than 8 hops;
+ * then, `place` counting along the route, 3 for a link that does not exist, 4 for one that stands twice, 5 for one that does
+ * not start where the one before ends, 6 where 64 channels exist, 7 for a link with 32 rows, 8 for one with no response
+ * within p, 9 where the responses add up to more than d, 10 for a link whose buffer is too small for what would be reserved.
+ * A refused call leaves the store as it was. */
+uint64_t byanghosu_open(uint64_t *store, size_t length, uint64_t c, uint64_t p, uint64_t d, uint64_t b,
+                        const uint64_t *route, size_t hops, uint64_t *channel, uint64_t responses[8], uint64_t delays[8],
+                        uint64_t reserved[8], uint64_t *place);
 
 /* The response-time calculation by itself.
  *

@@ -8,9 +8,12 @@
  * fill VALUE                    every number becomes VALUE
  * put AT COUNT VALUES..         the numbers from AT on become VALUES
  * get AT                        ->   the number at AT
- * sum                           ->   a sum of all the numbers, of which each place counts differently
+ * sum COUNT                     ->   a sum of the first COUNT numbers, of which each place counts differently
  * setup LENGTH COUNT NUMBERS..  ->   NUMBER PLACE of a set-up in the first LENGTH numbers, the place 333 before the call
- * sound LENGTH                  ->   1 if the first LENGTH numbers are a sound store, 0 if not */
+ * sound LENGTH                  ->   1 if the first LENGTH numbers are a sound store, 0 if not
+ * open LENGTH C P D B COUNT ROUTE..
+ *                               ->   NUMBER PLACE CHANNEL of an open in the first LENGTH numbers, then the 8 responses, the 8
+ *                                    delays and the 8 reserved; the place 333, the channel 444, the others 555 before the call */
 #include "../include/byanghosu.h"
 #include <inttypes.h>
 #include <stdio.h>
@@ -76,8 +79,9 @@ static void put(void) {
 static void get(void) { printf("%" PRIu64 "\n", store[number_to(HELD - 1)]); }
 
 static void sum(void) {
+    size_t count = number_to(HELD);
     uint64_t all = 0;
-    for (size_t i = 0; i < HELD; i++) all = (all ^ store[i]) * 1099511628211u;
+    for (size_t i = 0; i < count; i++) all = (all ^ store[i]) * 1099511628211u;
     printf("%" PRIu64 "\n", all);
 }
 
@@ -92,10 +96,25 @@ static void set_up(void) {
 
 static void sound(void) { printf("%d\n", byanghosu_sound(store, number_to(HELD))); }
 
+static void open_channel(void) {
+    static uint64_t route[MOST];
+    size_t length = number_to(HELD);
+    uint64_t c = number(), p = number(), d = number(), b = number();
+    size_t hops = number_to(MOST);
+    uint64_t channel = 444, place = 333, per_link[3][8];
+    for (size_t i = 0; i < hops; i++) route[i] = number();
+    for (size_t i = 0; i < 24; i++) per_link[i / 8][i % 8] = 555;
+    uint64_t refusal = byanghosu_open(store, length, c, p, d, b, route, hops, &channel, per_link[0], per_link[1],
+                                      per_link[2], &place);
+    printf("%" PRIu64 " %" PRIu64 " %" PRIu64, refusal, place, channel);
+    for (size_t i = 0; i < 24; i++) printf(" %" PRIu64, per_link[i / 8][i % 8]);
+    printf("\n");
+}
+
 int main(void) {
     static const struct { const char *word; void (*answer)(void); } questions[] = {
         {"response", response}, {"fill", fill}, {"put", put}, {"get", get}, {"sum", sum},
-        {"setup", set_up}, {"sound", sound},
+        {"setup", set_up}, {"sound", sound}, {"open", open_channel},
     };
     char word[WORD];
     for (next(word); *word; next(word)) {

@@ -216,6 +216,17 @@ impl Room {
         wide(channel.c).saturating_mul(1 + stretch.saturating_sub(2) / wide(channel.p))
     }
 
+    // Packets reserved on a link, for all its rows.
+    pub fn taken(&self, link: &Link) -> u128 {
+        link.rows.iter().map(|row| self.reserved(&self.channels[row.channel as usize], row.place as usize)).sum()
+    }
+
+    // Rows stand by delay, then channel number.
+    pub fn sort_rows(&mut self, l: usize) {
+        let channels = &self.channels;
+        self.links[l].rows.sort_by_key(|row| (channels[row.channel as usize].delay[row.place as usize], row.channel));
+    }
+
     fn check_route(&self, route: &[u64], broken: &mut Broken) {
         let twice = |j: usize| route[..j].contains(&route[j]);
         let joined = |a: u64, b: u64| self.links[a as usize].to == self.links[b as usize].from;

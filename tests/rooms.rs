@@ -1,7 +1,8 @@
 // Rooms, written to a store: sound as they are made, or with one flaw that is asked for by the name of a rule in room.rs.
 // A flaw is kept apart from the other rules as well as may be; whether the store breaks that rule alone, the caller sees.
-use crate::driver::Random;
-use crate::room::{channel_at, link_at, Channel, Link, Room, Row, END_SLOT, LATEST};
+use crate::driver::{fail, Random};
+use crate::questions::LENGTHS;
+use crate::room::{broken, channel_at, link_at, Channel, Link, Room, Row, END_SLOT, LATEST, STORE};
 
 #[derive(Clone, Copy, PartialEq)]
 pub enum Size {
@@ -44,7 +45,7 @@ impl Random {
 }
 
 // Makes one room. `flaw` is the rule to break, or empty; where a link or a channel breaks it, `link` or `channel` does.
-struct Maker<'a> {
+pub struct Maker<'a> {
     random: &'a Random,
     size: Size,
     flaw: &'a str,
@@ -55,7 +56,7 @@ struct Maker<'a> {
 }
 
 impl<'a> Maker<'a> {
-    fn new(random: &'a Random, size: Size, flaw: &'a str) -> Maker<'a> {
+    pub fn new(random: &'a Random, size: Size, flaw: &'a str) -> Maker<'a> {
         let (mut links, mut channels) = match size {
             Size::Small => (1 + random.to(4), random.to(4)),
             Size::Middle => (1 + random.to(15), random.to(20)),
@@ -84,21 +85,18 @@ impl<'a> Maker<'a> {
             self.add_channel(&mut room);
         }
         for l in 0..room.links.len() {
-            self.sort_rows(&mut room, l);
+            room.sort_rows(l);
             self.set_buffer(&mut room, l);
         }
         for c in 0..room.channels.len() {
-            let reserved: Vec<u64> =
-                (0..room.channels[c].route.len()).map(|j| room.reserved(&room.channels[c], j) as u64).collect();
-            let flaw = if c == self.channel { self.flaw } else { "" };
-            self.add_messages(&mut room.channels[c], &reserved, flaw);
+            self.add_messages(&mut room, c);
         }
         self.spoil_rows(&mut room);
         room
     }
 
     // Links round a ring of nodes, so that long routes are found, or between any nodes.
-    fn make_links(&self) -> Vec<Link> {
+    pub fn make_links(&self) -> Vec<Link> {
         let nodes = match self.size {
             Size::Full => self.random.pick(&[2, 4, 8]),
             _ => 2 + self.random.to(4) as usize,
@@ -132,8 +130,7 @@ impl<'a> Maker<'a> {
             let channel = self.channel_over(room, flaw);
             let fits = |j: usize| {
                 let link = &room.links[channel.route[j] as usize];
-                let taken: u128 = link.rows.iter().map(|row| self.reserved_for(room, row)).sum();
-                taken + room.reserved(&channel, j) <= 256
+                room.taken(link) + room.reserved(&channel, j) <= 256
             };
             if (channel.route.is_empty() && flaw != "hops") || !(0..channel.route.len()).all(fits) {
                 continue;
@@ -144,10 +141,6 @@ impl<'a> Maker<'a> {
             room.channels.push(channel);
             return;
         }
-    }
-
-    fn reserved_for(&self, room: &Room, row: &Row) -> u128 {
-        room.reserved(&room.channels[row.channel as usize], row.place as usize)
     }
 
     fn channel_over(&self, room: &Room, flaw: &str) -> Channel {
@@ -222,14 +215,9 @@ impl<'a> Maker<'a> {
         route
     }
 
-    fn sort_rows(&self, room: &mut Room, l: usize) {
-        let channels = &room.channels;
-        room.links[l].rows.sort_by_key(|row| (channels[row.channel as usize].delay[row.place as usize], row.channel));
-    }
-
     // The buffer is often no larger than it has to be.
     fn set_buffer(&self, room: &mut Room, l: usize) {
-        let all = room.links[l].rows.iter().map(|row| self.reserved_for(room, row)).sum::<u128>() as u64;
+        let all = room.taken(&room.links[l]) as u64;
         let least = all.max(1);
         room.links[l].buffer = match self.flaw {
             "buffer" if l == self.link => if all == 0 { 0 } else { self.random.above(256) },
@@ -240,11 +228,14 @@ impl<'a> Maker<'a> {
     }
 
     // Messages of the channel, some of them under way, and their packets along the route.
-    fn add_messages(&self, channel: &mut Channel, reserved: &[u64], flaw: &str) {
+    pub fn add_messages(&self, room: &mut Room, c: usize) {
         let random = self.random;
+        let flaw = if c == self.channel { self.flaw } else { "" };
+        let places = 0..room.channels[c].route.len();
+        let mut most: Vec<u64> = places.map(|j| room.reserved(&room.channels[c], j) as u64).collect();
+        let channel = &mut room.channels[c];
         // one place may have to hold more than is reserved, or one less than nothing
-        let place = random.place_of(reserved.len());
-        let mut most = reserved.to_vec();
+        let place = random.place_of(most.len());
         match flaw {
             "held" => most[place] += 1 + random.pick(&[0, random.to(9)]),
             "sent" => most[place] = 0,
@@ -394,7 +385,7 @@ impl<'a> Maker<'a> {
                 let channel = random.place_of(room.channels.len());
                 let place = random.place_of(room.channels[channel].route.len());
                 rows.push(Row { channel: channel as u64, place: place as u64 });
-                self.sort_rows(room, self.link);
+                room.sort_rows(self.link);
             }
             _ => {}
         }
@@ -423,6 +414,23 @@ pub fn store_with(random: &Random, size: Size, flaw: &str, old: &[u64]) -> (Room
         _ => {}
     }
     (room, store)
+}
+
+// A length and a store that break one rule and no other; `n` counts the stores that have been asked for.
+pub fn flawed_store(random: &Random, flaw: &str, n: u64, old: &[u64]) -> (usize, Vec<u64>) {
+    let size = match flaw {
+        "rows" | "channels" => Size::Crowded,
+        "row twice" | "row of another link" | "joined" => random.pick(&[Size::Small, Size::Middle]),
+        _ if n % 100 == 0 => Size::Full,
+        _ => random.pick(&[Size::Small, Size::Small, Size::Small, Size::Middle]),
+    };
+    let length = match flaw {
+        "length" => random.pick(&[0, 1, 96, STORE - 1, random.to(STORE as u64 - 1) as usize]),
+        _ => random.pick(&LENGTHS),
+    };
+    let mut tries = (0..5_000).map(|_| store_with(random, size, flaw, old).1);
+    let found = tries.find(|store| broken(&store[..length]).0 == [flaw].into());
+    (length, found.unwrap_or_else(|| fail(format!("no room breaks '{flaw}' alone"))))
 }
 
 // A route of nine links, if what follows the eighth number of each list of a channel is taken for the ninth.
