@@ -36,7 +36,7 @@ bool byanghosu_sound(const uint64_t *store, size_t length);
  * route     the links that it goes over, in their order; `hops` of them, 1 to 8
  * channel   the new channel's number; channels are numbered from 0 as opened
  * responses the response found on each link of the route
- * delays    the delay given to it there, which is its bound for every message
+ * delays    the delay given to it there, at most p
  * reserved  the packets reserved for it there
  *
  * The last three have 8 numbers each, 0 past the end of the route. Returns, in the order in which they are looked at: 17 for
