@@ -8,7 +8,7 @@ ghost use mathlib.Core.Path.{_≡_};
 ghost use Rattle.opening.specs.Open.{openAnswer, openStore, valuesOf as openValues};
 ghost use Rattle.room.specs.Sound.{soundOf};
 ghost use Rattle.setup.specs.SetUp.{setUpAnswer, setUpStore, valuesOf as setUpValues};
-ghost use Rattle.response.specs.Alone.{Values, valuesOf, aloneOn};
+ghost use Rattle.response.specs.Alone.{valuesOf, aloneOn};
 
 // The response-time calculation by itself. `table` has C, p and delay of each row in turn, highest priority first.
 #[no_mangle]
@@ -101,14 +101,14 @@ pub extern "C" fn byanghosu_open(
     let packets = opening.reserved;
     *reserved = packets;
     match outcome {
-        Outcome::Accepted(number) => {
-            *channel = number;
+        Outcome::Accepted(x) => {
+            *channel = x;
             *place = 0;
             0
         }
-        Outcome::Refused(number, at) => {
-            *place = at;
-            number
+        Outcome::Refused(why, hop) => {
+            *place = hop;
+            why
         }
     }
 }

@@ -1,21 +1,22 @@
 -- Document 01's figures on opening, computed from the definitions. Assumes nothing.
 use Prim.Native.Nat.{ℕ}
 use mathlib.Core.Path.{_≡_, refl}
-use mathlib.Core.List.{[], _∷_}
-use lib.ListN.{replicate, take}
+use mathlib.Core.List.{List, [], _∷_}
+use lib.ListN.{replicate, take, drop}
 use Rattle.response.specs.declared.Answer.the-variants.{Found}
 use Rattle.response.specs.Need.{ceil, work, need, packets, start}
 use Rattle.response.specs.Trials.{tried, response}
 use Rattle.room.specs.Folds.{every, firstNot, sumTo}
-use Rattle.room.specs.Layout.{Store, numberAt, withC, withP, withDelay, withRows, withBuffer}
+use Rattle.room.specs.Layout.{Store, numberAt, withC, withP, withDelay, withRows, withBuffer, withLinks, withFrom, withTo, withHorizon}
+use Rattle.room.specs.Route.{joins}
 use Rattle.room.specs.Amounts.{reservedOf}
 use Rattle.opening.specs.declared.Outcome.{Outcome}
 use Rattle.opening.specs.declared.Outcome.the-variants.{Accepted, Refused}
 use Rattle.opening.specs.Request.{Request}
 use Rattle.opening.specs.Search.{rowsTo, smallest, position, newResponse}
 use Rattle.opening.specs.Shares.{delays, reserved, eight}
-use Rattle.opening.specs.Join.{withRow}
-use Rattle.opening.specs.Refusal.{firstFailed, lateChecks}
+use Rattle.opening.specs.Join.{withRow, rowsBefore}
+use Rattle.opening.specs.Refusal.{firstFailed, earlyChecks, lateChecks}
 
 -- a store in which link 0, with a buffer of 64, has the first n of the rows (c, p, d), (c′, p′, d′) of channels 0 and 1
 room : (n c p d c′ p′ d′ : ℕ) → Store
@@ -90,3 +91,51 @@ five = refl
 four : outcome (room 0 0 0 0 0 0 0) (asked 5 10 4 1) ≡ Refused 9 0
 unfolding outcome asked firstFailed every firstNot sumTo room rowsTo smallest response tried need start packets work ceil
 four = refl
+
+-- the same, of a channel that fills the buffer, and of one that asks for a packet more: B × C
+full : outcome (room 0 0 0 0 0 0 0) (asked 32 100 40 2) ≡ Accepted 0
+unfolding outcome asked firstFailed every firstNot sumTo reserved reservedOf room rowsTo smallest response tried need start packets work ceil
+full = refl
+
+over : outcome (room 0 0 0 0 0 0 0) (asked 13 100 40 5) ≡ Refused 10 0
+unfolding outcome asked firstFailed every firstNot sumTo reserved reservedOf room rowsTo smallest response tried need start packets work ceil
+over = refl
+
+-- "C 2, p 10, d' = d = 4: h = 3 reserves 2; h = 4 reserves 4", with h the horizon of the link before
+pair : (h h′ : ℕ) → Store
+pair h h′ =
+    withTo (withFrom (withHorizon (withTo (withFrom (withHorizon (withLinks (replicate 2_000 0) 2) 0 h) 0 0) 0 1) 1 h′) 1 1) 1 2
+
+three-ahead : eight (reserved (pair 3 4) 2 10 1 (numberAt (0 ∷ (1 ∷ []))) (numberAt (4 ∷ (4 ∷ [])))) 2 ≡ 2 ∷ (2 ∷ replicate 6 0)
+unfolding eight reserved pair
+three-ahead = refl
+
+four-ahead : eight (reserved (pair 4 3) 2 10 1 (numberAt (0 ∷ (1 ∷ []))) (numberAt (4 ∷ (4 ∷ [])))) 2 ≡ 2 ∷ (4 ∷ replicate 6 0)
+unfolding eight reserved pair
+four-ahead = refl
+
+-- checks 3 to 5 of a route over these two links: an unknown link is seen before a repeat, a repeat has the place of the second,
+-- and is seen before links that do not join
+routed : List ℕ → Outcome
+routed route = firstFailed (take 3 (drop 4 (earlyChecks (pair 0 0) (record { c = 1; p = 1; d = 1; b = 1; route = route })))) (Accepted 0)
+
+unknown-first : routed (0 ∷ (0 ∷ (2 ∷ []))) ≡ Refused 3 2
+unfolding routed firstFailed every firstNot joins pair
+unknown-first = refl
+
+second-of-two : routed (0 ∷ (1 ∷ (0 ∷ []))) ≡ Refused 4 2
+unfolding routed firstFailed every firstNot joins pair
+second-of-two = refl
+
+apart : routed (1 ∷ (0 ∷ [])) ≡ Refused 5 1
+unfolding routed firstFailed every firstNot joins pair
+apart = refl
+
+joined : routed (0 ∷ (1 ∷ [])) ≡ Accepted 0
+unfolding routed firstFailed every firstNot joins pair
+joined = refl
+
+-- "by delay, then channel number": above a later delay, below the same and earlier ones
+behind-equal : rowsBefore (room 2 1 4 2 2 6 3) 0 2 ≡ 1
+unfolding firstNot every room
+behind-equal = refl

@@ -9,7 +9,7 @@ ghost use mathlib.Core.Path.{_≡_};
 ghost use mathlib.Core.Bool.{true};
 ghost use Prim.Native.Nat.{_+_, _-_, _≤_, _<_};
 ghost use lib.Dec.{leb};
-ghost use Rattle.kinds.specs.Ranges.{mostLinks, mostChannels, mostHops, mostC, mostP, mostNumber};
+ghost use Rattle.kinds.specs.Ranges.{mostLinks, mostChannels, mostHops, mostC, mostNumber};
 ghost use Rattle.room.specs.Layout.{Long, ring, linksOf, cOf, pOf, hopsOf, routeOf, timeOf};
 ghost use Rattle.room.specs.Folds.{every};
 ghost use Rattle.room.specs.Route.{routePasses};

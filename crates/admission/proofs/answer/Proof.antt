@@ -1,16 +1,14 @@
 -- `admission::answer` meets its contract: the checks in their order, and the numbers of each link beside a yes. Assumes nothing.
 use Prim.Native.Nat.{ℕ, _≤_}
-use mathlib.Core.Path.{_≡_, refl, sym, _∙_}
+use mathlib.Core.Path.{refl, sym, _∙_}
 use mathlib.Core.Bool.{and-eq-true-iff}
 use mathlib.Core.List.{List}
-use native.Mathlib.Omega.{arith}
 use borrow.Author.Needs.{needs}
 use lib.ListN.{take}
 use Rattle.kinds.specs.Ranges.{inRangeC, inRangeP}
-use Rattle.room.specs.Layout.{Store, channelsOf}
-use Rattle.opening.specs.declared.Outcome.the-variants.{Accepted}
-use Rattle.opening.specs.Request.{Request, hops}
-use Rattle.opening.specs.Refusal.{firstFailed, earlyChecks, lateChecks}
+use Rattle.room.specs.Layout.{Store}
+use Rattle.opening.specs.Request.{Request}
+use Rattle.opening.specs.Refusal.{earlyChecks, lateChecks}
 use Rattle.opening.proofs.Laws.Checks.{AllHold, accepted-all, all-passed}
 use Rattle.opening.proofs.Laws.Delays.{total-least}
 use Rattle.opening.proofs.Laws.Passed.{early-is}

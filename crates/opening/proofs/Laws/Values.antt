@@ -3,7 +3,7 @@ use Prim.Native.Nat.{ℕ}
 use mathlib.Core.Path.{_≡_, subst}
 use Rattle.opening.specs.declared.Opening.{Opening}
 use Rattle.opening.specs.declared.Outcome.the-variants.{Accepted, Refused}
-use Rattle.opening.specs.Open.{Values, valuesOn, valuesOf}
+use Rattle.opening.specs.Open.{valuesOn, valuesOf}
 
 -- r is the answer a, as a caller has it
 module _ (r a : Opening) (channel : ℕ) (e : r ≡ a) where
