@@ -67,10 +67,12 @@ module _ (w : Store) (q : Request) (rs : List ℕ) (a : Answered w q rs) where
     sum-is = e ∙ sum-same _ _ (hops q) responses-at
 
     pub refused-9 : q .d < sum → openOutcome w q ≡ Refused 9 0
-    refused-9 h = late-refused w q (a .early) 1 refl (a .late) (lt-leb (sumTo (responsesOf w q) (hops q)) (q .d) (omega (arith, sum-is)))
+    refused-9 h =
+        late-refused w q (a .early) 1 refl (a .late) (lt-leb (sumTo (responsesOf w q) (hops q)) (q .d) (omega (arith, sum-is)))
 
     pub past-9 : sum ≤ q .d → AllHold (take 2 (lateChecks w q))
-    past-9 h = one-more (lateChecks w q) 1 refl (a .late) (le-leb (sumTo (responsesOf w q) (hops q)) (q .d) (omega (arith, sum-is)))
+    past-9 h =
+        one-more (lateChecks w q) 1 refl (a .late) (le-leb (sumTo (responsesOf w q) (hops q)) (q .d) (omega (arith, sum-is)))
 
   module _ (ds : List ℕ) (e : Are q ds (delays (q .p) (q .d) (hops q) (numberAt rs))) where
     pub delays-are : Are q ds (delaysOf w q)

@@ -41,8 +41,11 @@ falls-never w l n f r i zero h m =
     let e : i ≡ 0 = omega arith in
     rw e (omega arith)
 falls-never w l n f r i (suc k) h m =
-    let step : entryDelay w (f k) ≤ entryDelay w (f (suc k)) = ⊎-elim (λ a. omega (arith, a)) (λ b. omega (arith, b .0)) (r .sorted k m) in
-    below i (suc k) (omega arith) (λ a. omega (arith, step, falls-never w l n f r i k (omega arith) (omega arith))) (λ e. rw e (omega arith))
+    let step : entryDelay w (f k) ≤ entryDelay w (f (suc k)) =
+    ⊎-elim (λ a. omega (arith, a)) (λ b. omega (arith, b .0)) (r .sorted k m) in
+    below i (suc k) (omega arith)
+    (λ a. omega (arith, step, falls-never w l n f r i k (omega arith) (omega arith)))
+    (λ e. rw e (omega arith))
 
 module _ {w w′ : Store} {q : Request} {d : ℕ → ℕ} (o : Opened w w′ q d) where
   -- an old row is the same row
@@ -78,6 +81,9 @@ module _ {w w′ : Store} {q : Request} {d : ℕ → ℕ} (o : Opened w w′ q d
         let e : d j < entryDelay w (entry w l at) = leb-false _ _ (first o j h .fails (omega arith)) in
         omega (arith, falls-never w l n (entry w l) (old o j h) at k a b)
 
+    inside : position w (q .c) (q .p) l ≤ n
+    inside = smallest-is (hasResponse w (q .c) (q .p) l) n .most
+
     opening : Opening (tableOf w l) (newRow (q .c) (q .p))
     opening = record {
       packets = o .early .good .c-least;
@@ -85,7 +91,7 @@ module _ {w w′ : Store} {q : Request} {d : ℕ → ℕ} (o : Opened w w′ q d
       smallest = position-smallest w (q .c) (q .p) l;
       r = responds .length;
       trials = responds .trials;
-      found = rw (rows-take w l n (position w (q .c) (q .p) l) (smallest-is (hasResponse w (q .c) (q .p) l) n .most)) (responds .found);
+      found = rw (rows-take w l n (position w (q .c) (q .p) l) inside) (responds .found);
       d = d j;
       covers = omega (arith, covers, ap lengthOf (responds .found));
       within = within;

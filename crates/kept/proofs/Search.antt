@@ -54,7 +54,8 @@ module _ (w : Store) (c p l : ℕ) where
           let m : ℕ = position w c p l - 1 in
           let e : position w c p l ≡ suc m = omega (arith, h) in
           let i : m < n = omega (arith, chosen .most) in
-          let r : _ = all (rowsTo w l m) (rowsFrom w l n (suc m)) (rowAt w l m) (rows-at w l n m i) (omega (arith, h, rows-length w l m)) in
+          let late : k ≤ length (rowsTo w l m) = omega (arith, h, rows-length w l m) in
+          let r : _ = all (rowsTo w l m) (rowsFrom w l n (suc m)) (rowAt w l m) (rows-at w l n m i) late in
           let t : hasResponse w c p l m ≡ true = response-found _ _ _ r in
           let f : hasResponse w c p l m ≡ false = chosen .stops m e in
           let z : _≡_ {A = ℕ} 0 1 = cc (t, f) in

@@ -117,7 +117,8 @@ four-ahead = refl
 -- checks 3 to 5 of a route over these two links: an unknown link is seen before a repeat, a repeat has the place of the second,
 -- and is seen before links that do not join
 routed : List ℕ → Outcome
-routed route = firstFailed (take 3 (drop 4 (earlyChecks (pair 0 0) (record { c = 1; p = 1; d = 1; b = 1; route = route })))) (Accepted 0)
+routed route =
+    firstFailed (take 3 (drop 4 (earlyChecks (pair 0 0) (record { c = 1; p = 1; d = 1; b = 1; route = route })))) (Accepted 0)
 
 unknown-first : routed (0 ∷ (0 ∷ (2 ∷ []))) ≡ Refused 3 2
 unfolding routed firstFailed every firstNot joins pair

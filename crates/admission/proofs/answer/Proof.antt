@@ -138,7 +138,8 @@ delays-requires c κs =
     let sum = t .before .total .ensures in
     let least : 1 ≤ t .before .total .result =
     rw (sum-is (store s) (request s) (found b) a _ sum) (total-least (store s) (request s) e r) in
-    (e .hops-most, (e .good .d-most, (responses-ranged (store s) (request s) e (found b) r (responses-at (store s) (request s) (found b) a), (sum, (least, t .if2 .left)))))
+    let ranged = responses-ranged (store s) (request s) e (found b) r (responses-at (store s) (request s) (found b) a) in
+    (e .hops-most, (e .good .d-most, (ranged, (sum, (least, t .if2 .left)))))
 
 reserved-requires : tie.Need-reserved-requires
 reserved-requires c κs =
@@ -148,7 +149,8 @@ reserved-requires c κs =
     let e = facts (store s) (request s) (found b) a in
     let r = answers (store s) (request s) (found b) a in
     let ds = c .before .delays .result in
-    (delays-placed (store s) (request s) e ds r (delays-at (store s) (request s) (found b) a ds (c .before .delays .ensures)), (e .good .c-most, e .good .b-most))
+    let at = delays-at (store s) (request s) (found b) a ds (c .before .delays .ensures) in
+    (delays-placed (store s) (request s) e ds r at, (e .good .c-most, e .good .b-most))
 
 full-link-requires : tie.Need-full-link-requires
 full-link-requires c κs =

@@ -49,7 +49,9 @@ loop-again c =
     passing-more _ _ _ (t .before .loop .inv) (t .loop-test .taken) (under (c .before .rows .ensures) (c .if1 .left))
 
 returns-2 : tie.Need-returns-2 Inv-loop μ-loop
-returns-2 c = rw (from-start (c .before .before .before .before .args .route .now)) (passing-end _ _ _ (c .before .loop .inv) (c .loop-test .left))
+returns-2 c =
+    rw (from-start (c .before .before .before .before .args .route .now))
+    (passing-end _ _ _ (c .before .loop .inv) (c .loop-test .left))
 
 pub crowded-link-spec : {M : Type 1} → statement M
 crowded-link-spec =

@@ -109,7 +109,8 @@ is-sound-requires : tie.Need-is-sound-requires
 is-sound-requires c κs = search needs
 
 returns : tie.Need-returns
-returns c = fails-after (checks (c .before .before .before .before)) 0 _ refl tt (refuted (c .before .is-sound .ensures) (c .if1 .taken))
+returns c =
+    fails-after (checks (c .before .before .before .before)) 0 _ refl tt (refuted (c .before .is-sound .ensures) (c .if1 .taken))
 
 clock-requires : tie.Need-clock-requires
 clock-requires c κs = long (start-17 c) (past-17 c)

@@ -24,7 +24,8 @@ request c = let a = start c .args in record { c = a .c; p = a .p; d = a .d; b = 
 outcome : (c : tie.After-answer) → c .answer .result .outcome ≡ openOutcome (store c) (request c)
 outcome c = ap (λ o. o .outcome) (c .answer .ensures) ∙ outcome-is (store c) (request c)
 
-accepted : (c : tie.After-outcome) → openOutcome (store (c .before .before)) (request (c .before .before)) ≡ Accepted (c .outcome .given .0 .0)
+accepted : (c : tie.After-outcome)
+    → openOutcome (store (c .before .before)) (request (c .before .before)) ≡ Accepted (c .outcome .given .0 .0)
 accepted c = sym (outcome (c .before .before)) ∙ c .outcome .given .1
 
 answer-requires : tie.Need-answer-requires

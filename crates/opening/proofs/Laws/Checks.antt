@@ -47,7 +47,9 @@ accepted-all (z ∷ rest) x y e = go (z .holds) refl (accepted-all rest x y)
   where
     go : (t : Bool) → z .holds ≡ t → (firstFailed rest (Accepted x) ≡ Accepted y → AllHold rest) → AllHold (z ∷ rest)
     go true h r = (h, r (rw (h, firstFailed) at e))
-    go false h r = absurd (let f : Refused (z .number) (z .place) ≡ Accepted y = rw (h, firstFailed) at e in let n : _≡_ {A = ℕ} 0 1 = cc in omega arith)
+    go false h r =
+        let f : Refused (z .number) (z .place) ≡ Accepted y = rw (h, firstFailed) at e in
+        absurd (let n : _≡_ {A = ℕ} 0 1 = cc in omega arith)
 
 pub refused-any : (checks : List Check) (x n at : ℕ) (passed : Outcome) → firstFailed checks (Accepted x) ≡ Refused n at
     → firstFailed checks passed ≡ Refused n at

@@ -39,8 +39,8 @@ module _ (w : Store) (q : Request) (e : Early w q) where
         let l = link q j in
         let a = f j h in
         let inside = smallest-is (hasResponse w (q .c) (q .p) l) (rowsOf w l) .most in
-        let sp = ranged-spaced _ (rows-ranged w (sound-is w (e .sound)) l (e .route .known j h) (position w (q .c) (q .p) l) inside) in
-        rw (a .found) (found-least _ _ _ (e .good .c-least) sp (a .length) (a .trials) (a .found))
+        let ranged = rows-ranged w (sound-is w (e .sound)) l (e .route .known j h) (position w (q .c) (q .p) l) inside in
+        rw (a .found) (found-least _ _ _ (e .good .c-least) (ranged-spaced _ ranged) (a .length) (a .trials) (a .found))
 
     module _ (j : ℕ) (h : j < hops q) where
       pub response-least : 1 ≤ responsesOf w q j

@@ -1,7 +1,7 @@
 -- The checks of an open: what holds where they are passed, and that the first failed one answers whatever comes after it.
 -- Assumes nothing.
 use mathlib.Core.Path.{_≡_}
-use mathlib.Core.Bool.{Bool, true, _&&_, and-eq-true-iff}
+use mathlib.Core.Bool.{true}
 use lib.ListN.{take}
 use borrow.Author.Tests.{leb-true, ltb-true}
 use Rattle.kinds.specs.Ranges.{mostHops}
@@ -9,7 +9,7 @@ use Rattle.kinds.proofs.Laws.{within-true, channel-bounds}
 use Rattle.room.specs.Folds.{every}
 use Rattle.room.specs.Layout.{Store}
 use Rattle.room.proofs.Laws.Folds.{every-at}
-use Rattle.room.proofs.Laws.Sound.{route-is}
+use Rattle.room.proofs.Laws.Sound.{both, route-is}
 use Rattle.opening.specs.Request.{Request, hops, link}
 use Rattle.opening.specs.Search.{responds}
 use Rattle.opening.specs.Shares.{fitsBuffer}
@@ -17,9 +17,6 @@ use Rattle.opening.specs.Refusal.{hasRoom, earlyChecks, lateChecks, rese
 use Rattle.opening.proofs.Laws.Facts.{Early, Responds, Late}
 use Rattle.opening.proofs.Laws.Checks.{AllHold}
 use Rattle.opening.proofs.Laws.Search.{found-response}
-
-both : (a b : Bool) → a ≡ true → b ≡ true → (a && b) ≡ true
-both a b e f = and-eq-true-iff a b .1 (e, f)
 
 module _ (w : Store) (q : Request) where
   pub early-is : AllHold (earlyChecks w q) → Early w q

@@ -23,7 +23,7 @@ use Rattle.room.specs.Ranged.{Ranged, Fit}
 use Rattle.room.proofs.Laws.Folds.{or-true, every-at, every-true, some-at, some-true}
 
 -- Two tests that both hold.
-both : (a b : Bool) → a ≡ true → b ≡ true → (a && b) ≡ true
+pub both : (a b : Bool) → a ≡ true → b ≡ true → (a && b) ≡ true
 both a b e f = and-eq-true-iff a b .1 (e, f)
 
 -- "its counts lie within the ranges"
