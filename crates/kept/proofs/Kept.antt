@@ -5,7 +5,7 @@ use mathlib.Core.Path.{_≡_}
 use native.Mathlib.Omega.{arith}
 use Rattle.kinds.specs.Ranges.{mostLinks}
 use Rattle.room.specs.Layout.{Store, numberAt, linkAt, channelAt, channelsAt, recordLength, channelsOf, linksOf, clockOf}
-use Rattle.room.specs.Layout.{linksAt, clockAt, fromAt, toAt, horizonAt, bufferAt}
+use Rattle.room.specs.Layout.{rowsAt, rowsEnd, linksAt, clockAt, fromAt, toAt, horizonAt, bufferAt}
 use Rattle.room.proofs.Laws.Sound.{Sound, sound-is}
 use Rattle.opening.specs.Request.{Request, hops, link}
 use Rattle.opening.proofs.Laws.Facts.{Early, After}
@@ -29,7 +29,7 @@ module _ {w w′ : Store} {q : Request} {d : ℕ → ℕ} (o : Opened w w′ q d
 
   -- below the new record only rows and the count of channels are written
   low-kept : (at : ℕ) → (at ≡ channelsAt → ⊥) → at < channelAt (channelsOf w)
-      → ((j : ℕ) → j < hops q → linkAt (link q j) + 4 ≤ at → at < linkAt (link q j) + 80 → ⊥)
+      → ((j : ℕ) → j < hops q → rowsAt (link q j) ≤ at → at < rowsEnd (link q j) → ⊥)
       → numberAt w′ at ≡ numberAt w at
   low-kept at other low apart = o .after .frame at other (λ a b. omega arith) apart
 
@@ -39,7 +39,7 @@ module _ {w w′ : Store} {q : Request} {d : ℕ → ℕ} (o : Opened w w′ q d
   pub links-kept : linksOf w′ ≡ linksOf w
   links-kept = low-kept linksAt (λ e. omega arith) (omega arith) (λ j h x y. omega arith)
 
-  pub link-kept : (l at : ℕ) → l < mostLinks → linkAt l ≤ at → at < linkAt l + 4 → numberAt w′ at ≡ numberAt w at
+  pub link-kept : (l at : ℕ) → l < mostLinks → linkAt l ≤ at → at < rowsAt l → numberAt w′ at ≡ numberAt w at
   link-kept l at h a b = low-kept at (λ e. omega arith) (omega arith) (λ j m x y. omega arith)
 
   pub away-kept : (l at : ℕ) → l < mostLinks → Away (link q) (hops q) l → linkAt l ≤ at → at < linkAt l + recordLength

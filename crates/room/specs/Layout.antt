@@ -65,6 +65,10 @@ rowChannelAt l k = linkAt l + 16 + 2 * k
 abbrev pub rowPlaceAt : (l k : ℕ) → ℕ
 rowPlaceAt l k = linkAt l + 17 + 2 * k
 
+-- a link's rows, their number first, stand from `rowsAt` up to here
+abbrev pub rowsEnd : ℕ → ℕ
+rowsEnd l = linkAt l + 80
+
 -- A channel: its numbers, its route and the delay on each link of it. Places 6, 7 and 80 to 95 are spare (a mark).
 abbrev pub cAt : ℕ → ℕ
 cAt c = channelAt c

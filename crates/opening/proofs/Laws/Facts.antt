@@ -7,7 +7,7 @@ use Rattle.kinds.specs.Ranges.{mostChannels, mostHops, mostRows, endSlot}
 use Rattle.kinds.proofs.Laws.{GoodChannel}
 use Rattle.response.specs.Right.{HasResponse}
 use Rattle.room.specs.Folds.{sumTo}
-use Rattle.room.specs.Layout.{Store, numberAt, linkAt, channelAt, channelsAt, recordLength, channelsOf, clockOf, bufferOf, rowsOf}
+use Rattle.room.specs.Layout.{Store, numberAt, channelAt, channelsAt, rowsAt, rowsEnd, recordLength, channelsOf, clockOf, bufferOf, rowsOf}
 use Rattle.room.specs.Layout.{rowChannelOf, rowPlaceOf, cOf, pOf, dOf, bOf, hopsOf, messagesOf, routeOf, delayOf, sentOf, timeOf, endOf}
 use Rattle.room.specs.Sound.{soundOf}
 use Rattle.room.proofs.Laws.Sound.{Good345}
@@ -56,7 +56,7 @@ pub record After (w w′ : Store) (x : ℕ) (q : Request) (d : ℕ → ℕ) : Ty
   pub as-long : length w′ ≡ length w
   pub frame : (at : ℕ) → (at ≡ channelsAt → ⊥)
       → (channelAt x ≤ at → at < channelAt x + recordLength → ⊥)
-      → ((j : ℕ) → j < hops q → linkAt (link q j) + 4 ≤ at → at < linkAt (link q j) + 80 → ⊥)
+      → ((j : ℕ) → j < hops q → rowsAt (link q j) ≤ at → at < rowsEnd (link q j) → ⊥)
       → numberAt w′ at ≡ numberAt w at
   pub channels : channelsOf w′ ≡ channelsOf w + 1
   pub c-is : cOf w′ x ≡ q .c

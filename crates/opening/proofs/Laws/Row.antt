@@ -5,7 +5,7 @@ use mathlib.Core.Path.{_≡_, _∙_}
 use native.Mathlib.Omega.{arith}
 use lib.ListN.{length, length-set}
 use Rattle.kinds.specs.Ranges.{mostLinks, mostRows}
-use Rattle.room.specs.Layout.{Store, Long, numberAt, linkAt, rowsAt, rowChannelAt, rowPlaceAt, rowsOf, rowChannelOf, rowPlaceOf}
+use Rattle.room.specs.Layout.{Store, Long, numberAt, rowsAt, rowsEnd, rowChannelAt, rowPlaceAt, rowsOf, rowChannelOf, rowPlaceOf}
 use Rattle.room.specs.Layout.{withRowChannel}
 use Rattle.room.proofs.Laws.Layout.{written, beside, as-long}
 use Rattle.room.proofs.Laws.Folds.{below, first-most}
@@ -90,7 +90,7 @@ module _ (w : Store) (l d x j : ℕ) where
   joined-length = as-long ordered (rowsAt l) (rowsOf w l + 1) ∙ put-length w l at x j moved
 
   module _ (link : l < mostLinks) (room : rowsOf w l < mostRows) where
-    pub joined-beside : (m : ℕ) → (linkAt l + 4 ≤ m → m < linkAt l + 80 → ⊥) → numberAt (rowJoined w l d x j) m ≡ numberAt w m
+    pub joined-beside : (m : ℕ) → (rowsAt l ≤ m → m < rowsEnd l → ⊥) → numberAt (rowJoined w l d x j) m ≡ numberAt w m
     unfolding rowJoined
     joined-beside m h =
         let n = inside in

@@ -1,11 +1,11 @@
 -- The rows of a channel joined on each link of its route: each link's rows as `Joined` says, and any other number as before.
 -- Assumes nothing.
-use Prim.Native.Nat.{ℕ, zero, suc, _+_, _≤_, _<_}
+use Prim.Native.Nat.{ℕ, zero, suc, _≤_, _<_}
 use mathlib.Core.Path.{_≡_, refl, sym, _∙_}
 use native.Mathlib.Omega.{arith}
 use lib.ListN.{length}
 use Rattle.kinds.specs.Ranges.{mostLinks, mostRows}
-use Rattle.room.specs.Layout.{Store, Long, numberAt, linkAt, channelAt, rowsAt, rowChannelAt, rowPlaceAt, routeAt, delayAt}
+use Rattle.room.specs.Layout.{Store, Long, numberAt, channelAt, rowsAt, rowsEnd, rowChannelAt, rowPlaceAt, routeAt, delayAt}
 use Rattle.room.specs.Layout.{rowsOf, rowChannelOf, rowPlaceOf, routeOf, delayOf}
 use Rattle.room.specs.Sound.{rowDelayOf}
 use Rattle.room.proofs.Laws.Folds.{below, first-same}
@@ -15,7 +15,7 @@ use Rattle.opening.proofs.Laws.Row.{joined-length, joined-beside, row-j
 
 -- the rows of link l, and their count, are the same in two stores
 abbrev pub SameRows : (v w : Store) → (l : ℕ) → Type 0
-SameRows v w l = (at : ℕ) → linkAt l + 4 ≤ at → at < linkAt l + 80 → numberAt v at ≡ numberAt w at
+SameRows v w l = (at : ℕ) → rowsAt l ≤ at → at < rowsEnd l → numberAt v at ≡ numberAt w at
 
 module _ (v w : Store) (l : ℕ) (same : SameRows v w l) where
   pub same-rows : rowsOf v l ≡ rowsOf w l
@@ -68,7 +68,7 @@ pub record Joinable (w : Store) (x n : ℕ) : Type 0 where
 module _ (w : Store) (x : ℕ) where
   -- a number that is no row, nor the count of rows, of the first n links
   abbrev pub NoRow : (n at : ℕ) → Type 0
-  NoRow n at = (j : ℕ) → j < n → linkAt (routeOf w x j) + 4 ≤ at → at < linkAt (routeOf w x j) + 80 → ⊥
+  NoRow n at = (j : ℕ) → j < n → rowsAt (routeOf w x j) ≤ at → at < rowsEnd (routeOf w x j) → ⊥
 
   pub rows-length : (n : ℕ) → length (rowsJoined w x n) ≡ length w
   unfolding rowsJoined
@@ -86,8 +86,8 @@ module _ (w : Store) (x : ℕ) where
         }
 
     -- no number is among the rows of the last link and of one before it
-    apart : (at j : ℕ) → j < n → linkAt (routeOf w x n) + 4 ≤ at → at < linkAt (routeOf w x n) + 80
-        → linkAt (routeOf w x j) + 4 ≤ at → at < linkAt (routeOf w x j) + 80 → ⊥
+    apart : (at j : ℕ) → j < n → rowsAt (routeOf w x n) ≤ at → at < rowsEnd (routeOf w x n)
+        → rowsAt (routeOf w x j) ≤ at → at < rowsEnd (routeOf w x j) → ⊥
     apart at j h a b c d = ready .new n j (omega arith) h (omega arith)
 
   -- the records of channels are beyond all rows
@@ -115,7 +115,7 @@ module _ (w : Store) (x : ℕ) where
     last-room : rowsOf so-far last < mostRows
     last-room = rw (same-rows so-far w last last-rows) (ready .room n (omega arith))
 
-    next-beside : (at : ℕ) → (linkAt last + 4 ≤ at → at < linkAt last + 80 → ⊥)
+    next-beside : (at : ℕ) → (rowsAt last ≤ at → at < rowsEnd last → ⊥)
         → numberAt (rowsJoined w x (suc n)) at ≡ numberAt so-far at
     next-beside at h = rw next (joined-beside so-far last (delayOf w x n) x n (ready .known n (omega arith)) last-room at h)
 
