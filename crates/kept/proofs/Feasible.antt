@@ -20,7 +20,7 @@ use Rattle.opening.proofs.Laws.Facts.{Early, Late, After}
 use Rattle.opening.proofs.Laws.Search.{smallest-is, rows-take}
 use Rattle.kept.proofs.Insert.{Inserted, inserted-map}
 use Rattle.kept.proofs.Place.{Away}
-use Rattle.kept.proofs.Same.{SameRecord, c-same, p-same}
+use Rattle.alike.proofs.Same.{SameRecord, c-same, p-same}
 use Rattle.kept.proofs.Rows.{Entry, entry, entryDelay, Here, Rows, rows-here}
 use Rattle.kept.proofs.Kept.{Opened, was-sound, open-keeps}
 use Rattle.kept.proofs.Old.{old-delay}

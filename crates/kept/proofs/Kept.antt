@@ -10,7 +10,7 @@ use Rattle.room.proofs.Laws.Sound.{Sound, sound-is}
 use Rattle.opening.specs.Request.{Request, hops, link}
 use Rattle.opening.proofs.Laws.Facts.{Early, After}
 use Rattle.kept.proofs.Place.{Away}
-use Rattle.kept.proofs.Same.{SameNetwork, SameRecord, Keeps}
+use Rattle.alike.proofs.Same.{SameNetwork, SameRecord, Keeps}
 
 -- an open of the request q, with delay d j at place j, was accepted in w and left w′
 pub record Opened (w w′ : Store) (q : Request) (d : ℕ → ℕ) : Type 0 where

@@ -1,6 +1,5 @@
 pub mod Insert
 pub mod Place
-pub mod Same
 pub mod Rows
 pub mod Kept
 pub mod Old

@@ -4,7 +4,7 @@ use native.Mathlib.Omega.{arith}
 use Rattle.room.specs.Layout.{Store, channelsOf, hopsOf, routeOf}
 use Rattle.room.proofs.Laws.Sound.{RowFor}
 use Rattle.opening.specs.Request.{Request, hops}
-use Rattle.kept.proofs.Same.{hops-same, route-same}
+use Rattle.alike.proofs.Same.{hops-same, route-same}
 use Rattle.kept.proofs.Kept.{Opened, was-sound, links-kept, record-kept}
 use Rattle.kept.proofs.Away.{away-row}
 use Rattle.kept.proofs.Join.{join-old, join-new}

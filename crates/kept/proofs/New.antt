@@ -12,7 +12,7 @@ use Rattle.room.proofs.Laws.Sound.{ChannelIs}
 use Rattle.opening.specs.Request.{Request, hops, link}
 use Rattle.opening.specs.Shares.{reserved}
 use Rattle.kept.proofs.Kept.{Opened, links-few, route-few, network-kept}
-use Rattle.kept.proofs.Same.{good-same}
+use Rattle.alike.proofs.Same.{good-same}
 
 -- no message and no packet: all are delivered
 none-left : (w : Store) (c : ℕ) → endOf w c 0 ≡ 0 → delivered w c 0 ≡ true

@@ -7,7 +7,7 @@ use Rattle.room.specs.Folds.{sumTo}
 use Rattle.room.specs.Layout.{Store, channelsOf}
 use Rattle.room.proofs.Laws.Folds.{sum-same}
 use Rattle.room.proofs.Laws.Sound.{Sound, ChannelIs}
-use Rattle.kept.proofs.Same.{SameRecord, Keeps, hops-same, route-same, delay-same, held-same, reserved-same, channel-same}
+use Rattle.alike.proofs.Same.{SameRecord, Keeps, hops-same, route-same, delay-same, held-same, reserved-same, channel-same}
 use Rattle.kept.proofs.Rows.{Entry, entryDelay, entryReserved, Here, Holds, Rows}
 
 module _ {w w′ : Store} (sound : Sound w) (keeps : Keeps w w′) where

@@ -112,6 +112,10 @@ timeAt c n = channelAt c + 32 + n % ring
 abbrev pub endAt : (c n : ℕ) → ℕ
 endAt c n = channelAt c + 56 + n % ring
 
+-- what it has sent and its messages' times and ends stand from `sentAt c 0` up to here
+abbrev pub courseEnd : ℕ → ℕ
+courseEnd c = channelAt c + 80
+
 -- Reading and writing, a name each.
 abbrev pub linksOf : Store → ℕ
 linksOf w = numberAt w linksAt

@@ -1,0 +1,5 @@
+pub mod Offer
+pub mod Head
+pub mod Pick
+pub mod Slot
+pub mod Idle
