@@ -7,13 +7,14 @@ use native.Mathlib.Omega.{arith}
 use lib.ListN.{take, drop}
 use Rattle.room.specs.Layout.{Store, numberAt, channelsOf, withChannels}
 use Rattle.room.specs.Sound.{soundOf}
+use Rattle.checks.proofs.Laws.{AllHold, failed-append, all-passed, accepted-all, hold-append, clear-other, clear-passed}
 use Rattle.opening.specs.declared.Outcome.the-variants.{Accepted, Refused}
 use Rattle.opening.specs.Request.{Request, hops}
 use Rattle.opening.specs.Shares.{eight}
 use Rattle.opening.specs.Join.{channelWritten, rowsJoined}
 use Rattle.opening.specs.Refusal.{earlyChecks, lateChecks, delaysOf, opened}
 use Rattle.opening.specs.Open.{openOutcome, openAnswer, openStore}
-use Rattle.opening.proofs.Laws.Checks.{AllHold, failed-append, all-passed, accepted-all, hold-append, clear-other, clear-passed}
+use Rattle.opening.proofs.Laws.Outcome.{refused-accepted, refused-number}
 use Rattle.opening.proofs.Laws.Facts.{Early, Late, After}
 use Rattle.opening.proofs.Laws.Passed.{early-is, late-is}
 use Rattle.opening.proofs.Laws.Delays.{delay-least, delay-within}
@@ -47,13 +48,13 @@ module _ (w : Store) (q : Request) where
   unfolding openOutcome
   never-17 s place e =
       let x = channelsOf w in
-      let first = clear-passed 17 place (earlyChecks w q) _
+      let first = clear-passed Refused refused-number 17 place (earlyChecks w q) _
       ((λ _. s), clear-other 17 (drop 1 (earlyChecks w q)) refl)
-      (sym (failed-append (earlyChecks w q) (lateChecks w q) (Accepted x)) ∙ e) in
-      let second = clear-passed 17 place (take 3 (lateChecks w q)) _
+      (sym (failed-append Refused (earlyChecks w q) (lateChecks w q) (Accepted x)) ∙ e) in
+      let second = clear-passed Refused refused-number 17 place (take 3 (lateChecks w q)) _
       (clear-other 17 (take 3 (lateChecks w q)) refl)
-      (sym (failed-append (take 3 (lateChecks w q)) (drop 3 (lateChecks w q)) (Accepted x)) ∙ first .1) in
-      let passed = all-passed (drop 3 (lateChecks w q)) (Accepted x) (all-late (first .0) (second .0) .1 .1 .1) in
+      (sym (failed-append Refused (take 3 (lateChecks w q)) (drop 3 (lateChecks w q)) (Accepted x)) ∙ first .1) in
+      let passed = all-passed Refused (drop 3 (lateChecks w q)) (Accepted x) (all-late (first .0) (second .0) .1 .1 .1) in
       let z : _≡_ {A = ℕ} 0 1 = cc (passed, second .1) in
       omega arith
 
@@ -61,7 +62,7 @@ module _ (w : Store) (q : Request) where
   module _ (x : ℕ) (a : openOutcome w q ≡ Accepted x) where
     holds : AllHold (earlyChecks w q) × AllHold (lateChecks w q)
     unfolding openOutcome
-    holds = hold-append (earlyChecks w q) (lateChecks w q) (accepted-all _ _ _ a)
+    holds = hold-append (earlyChecks w q) (lateChecks w q) (accepted-all Refused _ _ _ (refused-accepted x) a)
 
     -- "numbered from 0 as opened"
     pub accepted-number : x ≡ channelsOf w

@@ -5,12 +5,14 @@ use mathlib.Core.Bool.{false}
 use mathlib.Core.List.{List, _∷_}
 use lib.ListN.{take, drop}
 use Rattle.room.specs.Layout.{Store, channelsOf}
+use Rattle.checks.specs.Checks.{Check, firstFailed}
+use Rattle.checks.proofs.Laws.{AllHold, failed-append, all-passed, fails-after, refused-any}
 use Rattle.opening.specs.declared.Outcome.{Outcome}
 use Rattle.opening.specs.declared.Outcome.the-variants.{Accepted, Refused}
 use Rattle.opening.specs.Request.{Request}
-use Rattle.opening.specs.Refusal.{Check, firstFailed, earlyChecks, lateChecks, opened}
+use Rattle.opening.specs.Refusal.{earlyChecks, lateChecks, opened}
 use Rattle.opening.specs.Open.{refusal, answerOn, openOutcome, openAnswer, openStore}
-use Rattle.opening.proofs.Laws.Checks.{AllHold, failed-append, all-passed, fails-after, refused-any}
+use Rattle.opening.proofs.Laws.Outcome.{refused-accepted}
 
 module _ (w : Store) (q : Request) where
   -- the answer has the outcome
@@ -43,21 +45,22 @@ module _ (w : Store) (q : Request) where
     store-accepted = rw (e, openStore)
 
   -- where one of 17, 14 and 1 to 7 fails
-  pub early-refused : (x number place : ℕ) → firstFailed (earlyChecks w q) (Accepted x) ≡ Refused number place
+  pub early-refused : (x number place : ℕ) → firstFailed Refused (earlyChecks w q) (Accepted x) ≡ Refused number place
       → openOutcome w q ≡ Refused number place
   unfolding openOutcome
   early-refused x number place e =
-      failed-append (earlyChecks w q) (lateChecks w q) _ ∙ refused-any (earlyChecks w q) x number place _ e
+      failed-append Refused (earlyChecks w q) (lateChecks w q) _
+      ∙ refused-any Refused (earlyChecks w q) _ number place _ (refused-accepted x number place) e
 
   -- where they hold, the others decide
   module _ (early : AllHold (earlyChecks w q)) where
-    late-decides : openOutcome w q ≡ firstFailed (lateChecks w q) (Accepted (channelsOf w))
+    late-decides : openOutcome w q ≡ firstFailed Refused (lateChecks w q) (Accepted (channelsOf w))
     unfolding openOutcome
-    late-decides = failed-append (earlyChecks w q) (lateChecks w q) _ ∙ all-passed (earlyChecks w q) _ early
+    late-decides = failed-append Refused (earlyChecks w q) (lateChecks w q) _ ∙ all-passed Refused (earlyChecks w q) _ early
 
     pub late-refused : {x : Check} {rest : List Check} (k : ℕ) → drop k (lateChecks w q) ≡ x ∷ rest
         → AllHold (take k (lateChecks w q)) → x .holds ≡ false → openOutcome w q ≡ Refused (x .number) (x .place)
-    late-refused k e h f = late-decides ∙ sym (fails-after (lateChecks w q) k _ e h f)
+    late-refused k e h f = late-decides ∙ sym (fails-after Refused (lateChecks w q) k _ e h f)
 
     pub all-accepted : AllHold (lateChecks w q) → openOutcome w q ≡ Accepted (channelsOf w)
-    all-accepted late = late-decides ∙ all-passed (lateChecks w q) _ late
+    all-accepted late = late-decides ∙ all-passed Refused (lateChecks w q) _ late

@@ -9,6 +9,7 @@ use Rattle.kinds.specs.Ranges.{mostHops}
 use Rattle.room.specs.Layout.{Store, numberAt, channelsOf}
 use Rattle.room.specs.Folds.{firstNot, sumTo}
 use Rattle.room.proofs.Laws.Folds.{first-all, first-less, first-most, first-same, sum-same}
+use Rattle.checks.proofs.Laws.{AllHold, one-more}
 use Rattle.opening.specs.declared.Outcome.{Outcome}
 use Rattle.opening.specs.declared.Outcome.the-variants.{Accepted, Refused}
 use Rattle.opening.specs.Request.{Request, hops, link}
@@ -16,7 +17,6 @@ use Rattle.opening.specs.Search.{responds}
 use Rattle.opening.specs.Shares.{delays, reserved, fitsBuffer, eight}
 use Rattle.opening.specs.Refusal.{earlyChecks, lateChecks, responsesOf, delaysOf, reservedFor}
 use Rattle.opening.specs.Open.{openOutcome, openAnswer}
-use Rattle.opening.proofs.Laws.Checks.{AllHold, one-more}
 use Rattle.opening.proofs.Laws.Facts.{Early, Responds}
 use Rattle.opening.proofs.Laws.Passed.{early-is, responds-is}
 use Rattle.opening.proofs.Laws.Eight.{eight-at, eight-same}

@@ -16,8 +16,9 @@ ghost use lib.ListN.{length};
 ghost use Rattle.room.specs.Layout.{Long, channelsOf};
 ghost use Rattle.room.specs.Folds.{firstNot};
 ghost use Rattle.room.specs.Route.{from, Known};
+ghost use Rattle.checks.specs.Checks.{firstFailed};
 ghost use Rattle.opening.specs.declared.Outcome.the-variants.{Accepted, Refused};
-ghost use Rattle.opening.specs.Refusal.{hasRoom, firstFailed, earlyChecks};
+ghost use Rattle.opening.specs.Refusal.{hasRoom, earlyChecks};
 ghost use Rattle.opening.specs.Open.{refusal, openAnswer, openStore};
 
 // A refusal: 0 beside it.
@@ -51,7 +52,8 @@ fn crowded_link(store: &[u64], route: &[u64]) -> usize
 
 // Checks 17, 14 and 1 to 7, in this order: the refusal, or the number that the channel will have.
 fn early(store: &[u64], c: u64, p: u64, d: u64, b: u64, route: &[u64]) -> Outcome
-    ensures { λ r. ⌜ r ≡ firstFailed (earlyChecks (now (store .entry)) (record { c = c; p = p; d = d; b = b; route = now (route .entry) }))
+    ensures { λ r. ⌜ r ≡ firstFailed Refused
+        (earlyChecks (now (store .entry)) (record { c = c; p = p; d = d; b = b; route = now (route .entry) }))
         (Accepted (channelsOf (now (store .entry)))) ⌝ }
 {
     if !sound::is_sound(store) {

@@ -63,13 +63,6 @@ module _ {A : Type 0} (refused : (number place : ℕ) → A) where
   all-passed [] passed h = refl
   all-passed (x ∷ rest) passed h = rw (h .0, firstFailed) (all-passed rest passed (h .1))
 
-  -- those before one that fails hold
-  pub fails-at : (front back : List Check) (x : Check) (passed : A) → AllHold front → x .holds ≡ false
-      → firstFailed refused (front ++ (x ∷ back)) passed ≡ refused (x .number) (x .place)
-  unfolding firstFailed
-  fails-at [] back x passed h e = rw (e, firstFailed)
-  fails-at (y ∷ front) back x passed h e = rw (h .0, firstFailed) (fails-at front back x passed (h .1) e)
-
   pub fails-after : {x : Check} {rest : List Check} (checks : List Check) (k : ℕ) (passed : A) → drop k checks ≡ x ∷ rest
       → AllHold (take k checks) → x .holds ≡ false → refused (x .number) (x .place) ≡ firstFailed refused checks passed
   unfolding firstFailed

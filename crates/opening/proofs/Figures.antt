@@ -10,13 +10,14 @@ use Rattle.room.specs.Folds.{every, firstNot, sumTo}
 use Rattle.room.specs.Layout.{Store, numberAt, withC, withP, withDelay, withRows, withBuffer, withLinks, withFrom, withTo, withHorizon}
 use Rattle.room.specs.Route.{joins}
 use Rattle.room.specs.Amounts.{reservedOf}
+use Rattle.checks.specs.Checks.{firstFailed}
 use Rattle.opening.specs.declared.Outcome.{Outcome}
 use Rattle.opening.specs.declared.Outcome.the-variants.{Accepted, Refused}
 use Rattle.opening.specs.Request.{Request}
 use Rattle.opening.specs.Search.{rowsTo, smallest, position, newResponse}
 use Rattle.opening.specs.Shares.{delays, reserved, eight}
 use Rattle.opening.specs.Join.{withRow, rowsBefore}
-use Rattle.opening.specs.Refusal.{firstFailed, earlyChecks, lateChecks}
+use Rattle.opening.specs.Refusal.{earlyChecks, lateChecks}
 
 -- a store in which link 0, with a buffer of 64, has the first n of the rows (c, p, d), (c′, p′, d′) of channels 0 and 1
 room : (n c p d c′ p′ d′ : ℕ) → Store
@@ -45,7 +46,7 @@ asked : (c p d b : ℕ) → Request
 asked c p d b = record { c = c; p = p; d = d; b = b; route = 0 ∷ [] }
 
 outcome : Store → Request → Outcome
-outcome w q = firstFailed (take 3 (lateChecks w q)) (Accepted 0)
+outcome w q = firstFailed Refused (take 3 (lateChecks w q)) (Accepted 0)
 
 -- "Rows (1,4,2), (2,6,3), new C 3: lowest place; .. response 10, four trials. p = 10 accepted so far; p = 9 is refusal 8."
 lowest : position (room 2 1 4 2 2 6 3) 3 10 0 ≡ 2
@@ -118,7 +119,8 @@ four-ahead = refl
 -- and is seen before links that do not join
 routed : List ℕ → Outcome
 routed route =
-    firstFailed (take 3 (drop 4 (earlyChecks (pair 0 0) (record { c = 1; p = 1; d = 1; b = 1; route = route })))) (Accepted 0)
+    firstFailed Refused (take 3 (drop 4 (earlyChecks (pair 0 0) (record { c = 1; p = 1; d = 1; b = 1; route = route }))))
+    (Accepted 0)
 
 unknown-first : routed (0 ∷ (0 ∷ (2 ∷ []))) ≡ Refused 3 2
 unfolding routed firstFailed every firstNot joins pair

@@ -1,6 +1,6 @@
 -- Laws of the definitions in specs/, for the crates above.
 pub mod Facts
-pub mod Checks
+pub mod Outcome
 pub mod Passed
 pub mod Search
 pub mod Ranged

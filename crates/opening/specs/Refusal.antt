@@ -1,15 +1,16 @@
 -- Document 01, "Numbers given back on a refusal": the checks of an open. "Checks run in this order: open 17, 14, 1 to 10"; 17 once
 -- more "after all other checks".
 use Prim.Native.Nat.{ℕ, _+_}
-use mathlib.Core.Bool.{Bool, true, false}
+use mathlib.Core.Bool.{Bool}
 use mathlib.Core.List.{List, [], _∷_, _++_}
 use lib.Dec.{leb, ltb}
 use Rattle.kinds.specs.Ranges.{inRangeHops, mostChannels, mostRows, endSlot}
 use Rattle.kinds.specs.Checks.{channelPasses}
-use Rattle.room.specs.Folds.{every, firstNot, sumTo}
+use Rattle.room.specs.Folds.{sumTo}
 use Rattle.room.specs.Layout.{Store, channelsOf, clockOf, rowsOf, withChannels}
 use Rattle.room.specs.Route.{exists, isNew, joins}
 use Rattle.room.specs.Sound.{soundOf}
+use Rattle.checks.specs.Checks.{Check, check, checkAll, firstFailed}
 use Rattle.opening.specs.declared.Outcome.{Outcome}
 use Rattle.opening.specs.declared.Outcome.the-variants.{Refused}
 use Rattle.opening.specs.Request.{Request, hops, link}
@@ -31,25 +32,6 @@ reservedFor w q = reserved w (q .c) (q .p) (q .b) (link q) (delaysOf w q)
 unfoldable pub opened : Store → Request → Store
 opened w q =
     withChannels (rowsJoined (channelWritten w (channelsOf w) q (delaysOf w q)) (channelsOf w) (hops q)) (channelsOf w + 1)
-
--- one check: whether it holds, and the number and the place of the refusal where it does not
-pub record Check : Type 0 where
-  pub holds : Bool
-  pub number : ℕ
-  pub place : ℕ
-
-abbrev pub check : (number : ℕ) → (holds : Bool) → Check
-check number holds = record { holds = holds; number = number; place = 0 }
-
--- a check at each place of the route; the refusal's place is the first at which it does not hold
-abbrev pub checkAll : (number : ℕ) → (holds : ℕ → Bool) → (hops : ℕ) → Check
-checkAll number holds hops = record { holds = every holds hops; number = number; place = firstNot holds hops }
-
--- the first failed check answers; where all hold, `passed` does
-unfoldable pub firstFailed : List Check → (passed : Outcome) → Outcome
-firstFailed [] passed = passed
-firstFailed (x ∷ rest) passed =
-    elim (x .holds) [ true ↦ firstFailed rest passed | false ↦ Refused (x .number) (x .place) ]
 
 -- 7: "a link of the route has 32 rows"; here is room for one more
 abbrev pub hasRoom : Store → (route : ℕ → ℕ) → (j : ℕ) → Bool
@@ -79,4 +61,4 @@ lateChecks w q =
     ∷ [])))
 
 abbrev pub openRefusal : Store → Request → (passed : Outcome) → Outcome
-openRefusal w q passed = firstFailed (earlyChecks w q ++ lateChecks w q) passed
+openRefusal w q passed = firstFailed Refused (earlyChecks w q ++ lateChecks w q) passed

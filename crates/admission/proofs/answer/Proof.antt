@@ -7,9 +7,11 @@ use borrow.Author.Needs.{needs}
 use lib.ListN.{take}
 use Rattle.kinds.specs.Ranges.{inRangeC, inRangeP}
 use Rattle.room.specs.Layout.{Store}
+use Rattle.checks.proofs.Laws.{AllHold, accepted-all, all-passed}
+use Rattle.opening.specs.declared.Outcome.the-variants.{Refused}
 use Rattle.opening.specs.Request.{Request}
 use Rattle.opening.specs.Refusal.{earlyChecks, lateChecks}
-use Rattle.opening.proofs.Laws.Checks.{AllHold, accepted-all, all-passed}
+use Rattle.opening.proofs.Laws.Outcome.{refused-accepted}
 use Rattle.opening.proofs.Laws.Delays.{total-least}
 use Rattle.opening.proofs.Laws.Passed.{early-is}
 use Rattle.share.proofs.Laws.{responses-ranged, delays-placed, reserved-ranged}
@@ -31,7 +33,7 @@ start c = c .before .before .before .before .before
 
 -- 17, 14 and 1 to 7 are passed
 early : (c : tie.After-enum-told) → AllHold (earlyChecks (store (start c)) (request (start c)))
-early c = accepted-all _ _ _ (sym (c .before .before .early .ensures) ∙ c .enum-told .given .1)
+early c = accepted-all Refused _ _ _ (refused-accepted _) (sym (c .before .before .early .ensures) ∙ c .enum-told .given .1)
 
 -- 8 is passed, and here are the responses
 abbrev start-8 : tie.Else1 → tie.Start
@@ -191,7 +193,7 @@ returns-5 c =
     let de = d .before .delays .ensures in
     let re = r .before .reserved .ensures in
     let late = past-10 w q (found b) a _ de _ re (nine (back-d d)) _ (c .before .full-link .ensures) (c .if3 .left) in
-    accepted-is w q (t .before .before .early .ensures ∙ all-passed (earlyChecks w q) _ (a .early))
+    accepted-is w q (t .before .before .early .ensures ∙ all-passed Refused (earlyChecks w q) _ (a .early))
     (all-accepted w q (a .early) (all-late w q (a .early) late))
     (a .are)
     (delays-are w q (found b) a _ de)

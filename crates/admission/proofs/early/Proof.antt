@@ -12,8 +12,10 @@ use Rattle.room.specs.Route.{from, Known}
 use Rattle.room.proofs.Laws.Folds.{first-less, first-all}
 use Rattle.room.proofs.Laws.Sound.{sound-is}
 use Rattle.route.proofs.Laws.{link-bound}
-use Rattle.opening.specs.Refusal.{Check, earlyChecks}
-use Rattle.opening.proofs.Laws.Checks.{AllHold, all-passed, one-more, fails-after}
+use Rattle.checks.specs.Checks.{Check}
+use Rattle.checks.proofs.Laws.{AllHold, all-passed, one-more, fails-after}
+use Rattle.opening.specs.declared.Outcome.the-variants.{Refused}
+use Rattle.opening.specs.Refusal.{earlyChecks}
 use Rattle.admission.proofs.Tests.{at-least, under}
 use Rattle.admission.proofs.early.Statement.{statement}
 use Rattle.admission.proofs.early.Tie as tie
@@ -110,7 +112,8 @@ is-sound-requires c κs = search needs
 
 returns : tie.Need-returns
 returns c =
-    fails-after (checks (c .before .before .before .before)) 0 _ refl tt (refuted (c .before .is-sound .ensures) (c .if1 .taken))
+    fails-after Refused (checks (c .before .before .before .before)) 0 _ refl tt
+    (refuted (c .before .is-sound .ensures) (c .if1 .taken))
 
 clock-requires : tie.Need-clock-requires
 clock-requires c κs = long (start-17 c) (past-17 c)
@@ -118,7 +121,7 @@ clock-requires c κs = long (start-17 c) (past-17 c)
 returns-2 : tie.Need-returns-2
 returns-2 c =
     let t = c .before .before in
-    fails-after (checks (start-17 t)) 1 _ refl (past-17 t) (at-least (c .before .clock .ensures) (c .if2 .taken))
+    fails-after Refused (checks (start-17 t)) 1 _ refl (past-17 t) (at-least (c .before .clock .ensures) (c .if2 .taken))
 
 new-requires : tie.Need-new-requires
 new-requires c κs = search needs
@@ -132,7 +135,7 @@ enum-told-2 c = search needs
 returns-3 : tie.Need-returns-3
 returns-3 c =
     let t = c .before .before .before in
-    fails-after (checks (start-14 t)) 2 _ refl (past-14 t)
+    fails-after Refused (checks (start-14 t)) 2 _ refl (past-14 t)
     (refused-channel _ _ _ _ (sym (c .before .before .new .ensures) ∙ c .enum-told2 .given .1))
 
 new-requires-2 : tie.Need-new-requires-2
@@ -147,7 +150,7 @@ enum-told-4 c = search needs
 returns-4 : tie.Need-returns-4
 returns-4 c =
     let t = c .before .before .before in
-    fails-after (checks (start-1 t)) 3 _ refl (past-1 t)
+    fails-after Refused (checks (start-1 t)) 3 _ refl (past-1 t)
     (refused-route _ (sym (c .before .before .new2 .ensures) ∙ c .enum-told4 .given .1))
 
 unknown-link-requires : tie.Need-unknown-link-requires
@@ -157,7 +160,7 @@ returns-5 : tie.Need-returns-5
 returns-5 c =
     let t = c .before .before in
     let e = c .before .unknown-link .ensures in
-    rw e (fails-after (checks (start-2 t)) 4 _ refl (past-2 t) (first-less _ _ _ e (c .if3 .taken)))
+    rw e (fails-after Refused (checks (start-2 t)) 4 _ refl (past-2 t) (first-less _ _ _ e (c .if3 .taken)))
 
 repeated-link-requires : tie.Need-repeated-link-requires
 repeated-link-requires c κs = (omega arith, known c)
@@ -166,7 +169,7 @@ returns-6 : tie.Need-returns-6
 returns-6 c =
     let t = c .before .before in
     let e = c .before .repeated-link .ensures in
-    rw e (fails-after (checks (start-3 t)) 5 _ refl (past-3 t) (first-less _ _ _ e (c .if4 .taken)))
+    rw e (fails-after Refused (checks (start-3 t)) 5 _ refl (past-3 t) (first-less _ _ _ e (c .if4 .taken)))
 
 parted-link-requires : tie.Need-parted-link-requires
 parted-link-requires c κs =
@@ -177,7 +180,7 @@ returns-7 : tie.Need-returns-7
 returns-7 c =
     let t = c .before .before in
     let e = c .before .parted-link .ensures in
-    rw e (fails-after (checks (start-4 t)) 6 _ refl (past-4 t) (first-less _ _ _ e (c .if5 .taken)))
+    rw e (fails-after Refused (checks (start-4 t)) 6 _ refl (past-4 t) (first-less _ _ _ e (c .if5 .taken)))
 
 channels-requires : tie.Need-channels-requires
 channels-requires c κs = long (start-5 c) (past-5 c .0, tt)
@@ -185,7 +188,7 @@ channels-requires c κs = long (start-5 c) (past-5 c .0, tt)
 returns-8 : tie.Need-returns-8
 returns-8 c =
     let t = c .before .before in
-    fails-after (checks (start-5 t)) 7 _ refl (past-5 t) (at-least (c .before .channels .ensures) (c .if6 .taken))
+    fails-after Refused (checks (start-5 t)) 7 _ refl (past-5 t) (at-least (c .before .channels .ensures) (c .if6 .taken))
 
 crowded-link-requires : tie.Need-crowded-link-requires
 crowded-link-requires c κs = (long (start-6 c) (past-6 c .0, tt), known (c .before .before .before .before .before .before))
@@ -194,7 +197,7 @@ returns-9 : tie.Need-returns-9
 returns-9 c =
     let t = c .before .before in
     let e = c .before .crowded-link .ensures in
-    rw e (fails-after (checks (start-6 t)) 8 _ refl (past-6 t) (first-less _ _ _ e (c .if7 .taken)))
+    rw e (fails-after Refused (checks (start-6 t)) 8 _ refl (past-6 t) (first-less _ _ _ e (c .if7 .taken)))
 
 channels-requires-2 : tie.Need-channels-requires-2
 channels-requires-2 c κs = long (start-7 c) (past-7 c .0, tt)
@@ -202,7 +205,7 @@ channels-requires-2 c κs = long (start-7 c) (past-7 c .0, tt)
 returns-10 : tie.Need-returns-10
 returns-10 c =
     let t = c .before in
-    rw (c .channels2 .ensures) (sym (all-passed (checks (start-7 t)) _ (past-7 t)))
+    rw (c .channels2 .ensures) (sym (all-passed Refused (checks (start-7 t)) _ (past-7 t)))
 
 pub early-spec : {M : Type 1} → statement M
 early-spec =

@@ -1,5 +1,4 @@
--- The checks of an open: what holds where they are passed, and that the first failed one answers whatever comes after it.
--- Assumes nothing.
+-- The checks of an open: what holds where they are passed. Assumes nothing.
 use mathlib.Core.Path.{_≡_}
 use mathlib.Core.Bool.{true}
 use lib.ListN.{take}
@@ -10,12 +9,12 @@ use Rattle.room.specs.Folds.{every}
 use Rattle.room.specs.Layout.{Store}
 use Rattle.room.proofs.Laws.Folds.{every-at}
 use Rattle.room.proofs.Laws.Sound.{both, route-is}
+use Rattle.checks.proofs.Laws.{AllHold}
 use Rattle.opening.specs.Request.{Request, hops, link}
 use Rattle.opening.specs.Search.{responds}
 use Rattle.opening.specs.Shares.{fitsBuffer}
 use Rattle.opening.specs.Refusal.{hasRoom, earlyChecks, lateChecks, reservedFor}
 use Rattle.opening.proofs.Laws.Facts.{Early, Responds, Late}
-use Rattle.opening.proofs.Laws.Checks.{AllHold}
 use Rattle.opening.proofs.Laws.Search.{found-response}
 
 module _ (w : Store) (q : Request) where
