@@ -1,0 +1,5 @@
+pub mod Frame
+pub mod Order
+pub mod Held
+pub mod Sound
+pub mod Own
