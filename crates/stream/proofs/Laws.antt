@@ -166,13 +166,12 @@ module _ (w : Store) (c : ℕ) where
   order-end n (suc left) h = absurd (omega arith)
 
 -- A loop back over the messages: what is left decides.
-pub record Ordering (w : Store) (c last sent n left : ℕ) : Type 0 where
+pub record Ordering (w : Store) (c last most sent n left : ℕ) : Type 0 where
   pub sent-is : sent ≡ deliveredOf w c
   pub small : n ≤ mostNumber
-  pub few : left ≤ ring - 1
-  pub same : inOrder w c last (ring - 1) ≡ inOrder w c n left
+  pub same : inOrder w c last most ≡ inOrder w c n left
 
-module _ (w : Store) (c last sent n left end : ℕ) (o : Ordering w c last sent n left) (e : end ≡ endOf w c n) where
+module _ (w : Store) (c last most sent n left end : ℕ) (o : Ordering w c last most sent n left) (e : end ≡ endOf w c n) where
   is-delivered : end ≤ sent → delivered w c n ≡ true
   is-delivered h =
       let m : endOf w c n ≤ deliveredOf w c = rw (e, o .sent-is) at h in
@@ -183,26 +182,25 @@ module _ (w : Store) (c last sent n left end : ℕ) (o : Ordering w c last sent 
       let m : deliveredOf w c < endOf w c n = rw (o .sent-is, e) at h in
       lt-leb (endOf w c n) (deliveredOf w c) m
 
-  pub ordering-delivered : end ≤ sent → true ≡ inOrder w c last (ring - 1)
+  pub ordering-delivered : end ≤ sent → true ≡ inOrder w c last most
   ordering-delivered h = sym (o .same ∙ order-delivered w c n left (is-delivered h))
 
-  pub ordering-lost : 0 < left → n ≡ 0 → sent < end → false ≡ inOrder w c last (ring - 1)
+  pub ordering-lost : 0 < left → n ≡ 0 → sent < end → false ≡ inOrder w c last most
   ordering-lost h z l = sym (o .same ∙ order-lost w c n left h z (not-delivered l))
 
   module _ (h : 0 < left) (z : n ≡ 0 → ⊥) (l : sent < end) where
-    pub ordering-broken : follows w c (n - 1) ≡ false → false ≡ inOrder w c last (ring - 1)
+    pub ordering-broken : follows w c (n - 1) ≡ false → false ≡ inOrder w c last most
     ordering-broken f = sym (o .same ∙ (order-step w c n left h z (not-delivered l) ∙ rw f))
 
-    pub ordering-more : follows w c (n - 1) ≡ true → Ordering w c last sent (n - 1) (left - 1)
+    pub ordering-more : follows w c (n - 1) ≡ true → Ordering w c last most sent (n - 1) (left - 1)
     ordering-more f =
         record {
           sent-is = o .sent-is;
           small = omega (arith, o .small);
-          few = omega (arith, o .few);
           same = o .same ∙ (order-step w c n left h z (not-delivered l) ∙ rw f);
         }
 
-  pub ordering-end : left ≤ 0 → leb end sent ≡ inOrder w c last (ring - 1)
+  pub ordering-end : left ≤ 0 → leb end sent ≡ inOrder w c last most
   ordering-end h = rw (e, o .sent-is) (sym (o .same ∙ order-end w c n left h))
 
 pub sent-delivered : (w : Store) (c h s : ℕ) → h ≡ hopsOf w c → s ≡ sentOf w c (h - 1) → s ≡ deliveredOf w c

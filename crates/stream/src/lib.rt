@@ -7,10 +7,10 @@ use kinds::Slot;
 use room::channel;
 ghost use mathlib.Core.Path.{_≡_};
 ghost use mathlib.Core.Bool.{true};
-ghost use Prim.Native.Nat.{_+_, _-_, _≤_, _<_};
+ghost use Prim.Native.Nat.{_+_, _≤_, _<_};
 ghost use lib.Dec.{leb};
 ghost use Rattle.kinds.specs.Ranges.{mostLinks, mostChannels, mostHops, mostC, mostNumber};
-ghost use Rattle.room.specs.Layout.{Long, ring, linksOf, cOf, pOf, hopsOf, routeOf, timeOf};
+ghost use Rattle.room.specs.Layout.{Long, linksOf, cOf, pOf, hopsOf, routeOf, timeOf};
 ghost use Rattle.room.specs.Folds.{every};
 ghost use Rattle.room.specs.Route.{routePasses};
 ghost use Rattle.room.specs.Amounts.{deliveredOf};
@@ -120,18 +120,19 @@ fn follows(store: &[u64], c: usize, n: u64, sent: u64) -> bool
     is_apart(store, c, n)
 }
 
-// Whether messages are in order, from message `last` back to one that is delivered.
-fn in_order(store: &[u64], c: usize, last: u64) -> bool
+// Whether messages are in order, from message `last` back to one that is delivered: those that are not are among the `most`
+// last ones.
+pub fn in_order(store: &[u64], c: usize, last: u64, most: u64) -> bool
     requires { ⌜ Long (now store) ⌝ }
     requires { ⌜ c < mostChannels ⌝ }
     requires { ⌜ last ≤ mostNumber ⌝ }
     requires { ⌜ 1 ≤ hopsOf (now store) c ⌝ }
     requires { ⌜ hopsOf (now store) c ≤ mostHops ⌝ }
-    ensures { λ r. ⌜ r ≡ inOrder (now (store .entry)) c last (ring - 1) ⌝ }
+    ensures { λ r. ⌜ r ≡ inOrder (now (store .entry)) c last most ⌝ }
 {
     let sent = channel::sent(store, c, channel::hops(store, c) - 1);
     let mut n = last;
-    let mut left = room::UNDELIVERED;
+    let mut left = most;
     while left > 0 {
         if channel::end(store, c, n) <= sent {
             return true;
@@ -167,7 +168,7 @@ fn messages_fit(store: &[u64], c: usize) -> bool
     if channel::end(store, c, n) > channel::c(store, c) * n {
         return false;
     }
-    in_order(store, c, n)
+    in_order(store, c, n, room::UNDELIVERED)
 }
 
 // Whether channel `c` is sound.

@@ -8,10 +8,10 @@ use Rattle.stream.proofs.in_order.Statement.{statement}
 use Rattle.stream.proofs.in_order.Tie as tie
 
 abbrev Inv-loop : tie.InvT-loop
-Inv-loop store c last sent n₀ left₀ n left = Ordering store c last sent n left
+Inv-loop store c last most sent n₀ left₀ n left = Ordering store c last most sent n left
 
 abbrev μ-loop : tie.MeasureT-loop
-μ-loop store c last sent n₀ left₀ n left = left
+μ-loop store c last most sent n₀ left₀ n left = left
 
 hops-requires : tie.Need-hops-requires Inv-loop μ-loop
 hops-requires c κs = search needs
@@ -29,7 +29,6 @@ loop-holds c =
       sent-is = sent-delivered (s .args .store .now) (s .args .c) _ _ (c .before .hops .ensures)
           (c .sent .ensures);
       small = s .pre .1 .1 .0;
-      few = omega arith;
       same = refl;
     }
 
@@ -39,13 +38,13 @@ end-requires c κs = search needs
 returns : tie.Need-returns Inv-loop μ-loop
 returns c =
     let e = c .before in
-    ordering-delivered _ _ _ _ _ _ _ (e .before .before .loop .inv) (e .end .ensures) (c .if1 .taken)
+    ordering-delivered _ _ _ _ _ _ _ _ (e .before .before .loop .inv) (e .end .ensures) (c .if1 .taken)
 
 returns-2 : tie.Need-returns-2 Inv-loop μ-loop
 returns-2 c =
     let i = c .before in
     let e = i .before in
-    ordering-lost _ _ _ _ _ _ _ (e .before .before .loop .inv) (e .end .ensures) (e .before .loop-test .taken) (c .if2 .taken)
+    ordering-lost _ _ _ _ _ _ _ _ (e .before .before .loop .inv) (e .end .ensures) (e .before .loop-test .taken) (c .if2 .taken)
     (i .if1 .left)
 
 sub-follows : tie.Need-sub-follows Inv-loop μ-loop
@@ -62,7 +61,7 @@ returns-3 c =
     let z = c .before .before in
     let i = z .before in
     let e = i .before in
-    ordering-broken _ _ _ _ _ _ _ (e .before .before .loop .inv) (e .end .ensures) (e .before .loop-test .taken) (z .if2 .left)
+    ordering-broken _ _ _ _ _ _ _ _ (e .before .before .loop .inv) (e .end .ensures) (e .before .loop-test .taken) (z .if2 .left)
     (i .if1 .left) (refuted (c .before .follows .ensures) (c .if3 .taken))
 
 sub-n : tie.Need-sub-n Inv-loop μ-loop
@@ -79,7 +78,7 @@ loop-again c =
     let z = c .before .before in
     let i = z .before in
     let e = i .before in
-    ordering-more _ _ _ _ _ _ _ (e .before .before .loop .inv) (e .end .ensures) (e .before .loop-test .taken) (z .if2 .left)
+    ordering-more _ _ _ _ _ _ _ _ (e .before .before .loop .inv) (e .end .ensures) (e .before .loop-test .taken) (z .if2 .left)
     (i .if1 .left) (held (c .before .follows .ensures) (c .if3 .left))
 
 end-requires-2 : tie.Need-end-requires-2 Inv-loop μ-loop
@@ -88,7 +87,7 @@ end-requires-2 c κs = search needs
 returns-4 : tie.Need-returns-4 Inv-loop μ-loop
 returns-4 c =
     let t = c .before in
-    ordering-end _ _ _ _ _ _ _ (t .before .loop .inv) (c .end2 .ensures) (t .loop-test .left)
+    ordering-end _ _ _ _ _ _ _ _ (t .before .loop .inv) (c .end2 .ensures) (t .loop-test .left)
 
 pub in-order-spec : {M : Type 1} → statement M
 in-order-spec =
