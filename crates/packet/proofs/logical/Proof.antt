@@ -1,0 +1,44 @@
+-- `packet::logical` meets its contract: the message's time and the delays before it, both far from 2 ^ 64. Assumes nothing.
+use Prim.Native.Nat.{_+_}
+use mathlib.Core.Path.{_≡_}
+use native.Mathlib.Omega.{arith}
+use Rattle.traffic.specs.Head.{logicalOf}
+use Rattle.packet.proofs.Laws.{place-ready, place-ranged, logical-is, logical-most}
+use Rattle.packet.proofs.logical.Statement.{statement}
+use Rattle.packet.proofs.logical.Tie as tie
+
+abbrev start : tie.After-offset → tie.Start
+start c = c .before .before .before .before
+
+sum-is : (c : tie.After-offset)
+    → c .before .time .result + c .offset .result ≡ logicalOf (start c .args .store .now) (start c .args .c) (start c .args .j)
+sum-is c =
+    logical-is _ _ _ _ _ _ (c .before .before .message .ensures) (c .before .time .ensures) (c .offset .ensures)
+
+message-requires : tie.Need-message-requires
+message-requires c κs =
+    let (e, (h, (l, f))) = c .before .pre in
+    place-ready _ e _ _ h l
+
+time-requires : tie.Need-time-requires
+time-requires c κs =
+    let (e, (h, (l, f))) = c .before .before .pre in
+    let r = place-ranged _ e _ _ h l in
+    (r .long, r .channel)
+
+offset-requires : tie.Need-offset-requires
+offset-requires c κs =
+    let (e, (h, (l, f))) = c .before .before .before .pre in
+    (place-ranged _ e _ _ h l, l)
+
+add-result : tie.Need-add-result
+add-result c =
+    let (e, (h, (l, f))) = start c .pre in
+    omega (arith, sum-is c, logical-most _ e _ _ h l f)
+
+returns : tie.Need-returns
+returns c = sum-is c
+
+pub logical-spec : {M : Type 1} → statement M
+logical-spec =
+    tie.close (tie.spec message-requires time-requires offset-requires add-result returns)
