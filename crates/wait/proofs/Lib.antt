@@ -1,0 +1,5 @@
+pub mod Clock
+pub mod Quiet
+pub mod Least
+pub mod Skip
+pub mod Run
