@@ -1,3 +1,4 @@
 pub mod Head
 pub mod Best
 pub mod Pick
+pub mod Next
