@@ -54,7 +54,8 @@ module _ {w : Store} (s : Sound w) where
         rw (r .channel, r .place) at (to-there w n (routeOf w c j) (r .row) m (r .picks) inside)
 
     pub sent-to : (n : ℕ) → n ≤ linksOf w
-        → sentOf (movedTo w n) c j ≡ elim (ltb (routeOf w c j) n && leaves w c j) [ true ↦ sentOf w c j + 1 | false ↦ sentOf w c j ]
+        → sentOf (movedTo w n) c j
+        ≡ elim (ltb (routeOf w c j) n && leaves w c j) [ true ↦ sentOf w c j + 1 | false ↦ sentOf w c j ]
     sent-to n few = go (ltb (routeOf w c j) n) (leaves w c j) refl refl
       where
         go : (a b : Bool) → ltb (routeOf w c j) n ≡ a → leaves w c j ≡ b
@@ -68,7 +69,7 @@ module _ {w : Store} (s : Sound w) where
   unfolding moved
   clock-after = written (movedTo w (linksOf w)) clockAt _ (omega (arith, to-length w (linksOf w), s .long))
 
-  beside-clock : (at : ℕ) → (at ≡ clockAt → ⊥) → numberAt (moved w) at ≡ numberAt (movedTo w (linksOf w)) at
+  pub beside-clock : (at : ℕ) → (at ≡ clockAt → ⊥) → numberAt (moved w) at ≡ numberAt (movedTo w (linksOf w)) at
   unfolding moved
   beside-clock at other = beside (movedTo w (linksOf w)) clockAt _ at other
 
@@ -117,8 +118,8 @@ module _ {w : Store} (s : Sound w) where
         go false e = sent-stays e
 
     -- it does not fall
-    pub sent-least : sentOf w c j ≤ sentOf (moved w) c j
-    sent-least = go (leaves w c j) refl
+    pub sent-rises : sentOf w c j ≤ sentOf (moved w) c j
+    sent-rises = go (leaves w c j) refl
       where
         go : (b : Bool) → leaves w c j ≡ b → sentOf w c j ≤ sentOf (moved w) c j
         go true e = omega (arith, sent-goes e)

@@ -1,5 +1,5 @@
--- After a slot each channel is as sound as before: no more has been sent at a place than has come to it, and its messages are in order.
--- Assumes nothing.
+-- After a slot each channel's course is sound again: no more has been sent at a place than has come to it, and its messages are
+-- in order. Assumes nothing.
 use Prim.Native.Nat.{ℕ, zero, suc, _+_, _-_, _≤_, _<_}
 use mathlib.Core.Path.{_≡_, refl}
 use mathlib.Core.Bool.{Bool, true, false, _&&_, _||_, and-eq-true-iff}
@@ -16,7 +16,8 @@ use Rattle.alike.proofs.Settled.{CourseIs, c-kept, p-kept, hops-kept}
 use Rattle.traffic.specs.Slot.{moved}
 use Rattle.moved.specs.Room.{leaves}
 use Rattle.moved.proofs.Leaves.{few-channels, leaving-held}
-use Rattle.moved.proofs.After.{moved-settled, messages-after, time-after, end-after, accepted-after, sent-goes, sent-stays, sent-least}
+use Rattle.moved.proofs.After.{moved-settled, messages-after, time-after, end-after, accepted-after}
+use Rattle.moved.proofs.After.{sent-goes, sent-stays, sent-rises}
 
 or-more : (a b a′ b′ : Bool) → (a ≡ true → a′ ≡ true) → (b ≡ true → b′ ≡ true) → (a || b) ≡ true → (a′ || b′) ≡ true
 or-more true b a′ b′ f g e = rw (f refl)
@@ -27,14 +28,16 @@ module _ (w w′ : Store) (c : ℕ) (same-c : cOf w′ c ≡ cOf w c) (same-p : 
     (same-time : (n : ℕ) → timeOf w′ c n ≡ timeOf w c n) (same-end : (n : ℕ) → endOf w′ c n ≡ endOf w c n)
     (more : deliveredOf w c ≤ deliveredOf w′ c) where
   delivered-more : (n : ℕ) → delivered w c n ≡ true → delivered w′ c n ≡ true
-  delivered-more n e = le-leb (endOf w′ c n) (deliveredOf w′ c) (omega (arith, leb-true (endOf w c n) (deliveredOf w c) e, same-end n))
+  delivered-more n e =
+      le-leb (endOf w′ c n) (deliveredOf w′ c) (omega (arith, leb-true (endOf w c n) (deliveredOf w c) e, same-end n))
 
   follows-more : (n : ℕ) → follows w c n ≡ true → follows w′ c n ≡ true
   follows-more n e =
       let a = and-eq-true-iff (ltb (endOf w c n) (endOf w c (n + 1)) && leb (endOf w c (n + 1)) (endOf w c n + cOf w c)) _ .0 e in
       both (ltb (endOf w′ c n) (endOf w′ c (n + 1)) && leb (endOf w′ c (n + 1)) (endOf w′ c n + cOf w′ c)) _
       (rw (same-end n, same-end (n + 1), same-c) (a .0))
-      (or-more (delivered w c n) _ (delivered w′ c n) (leb (timeOf w′ c n + pOf w′ c) (timeOf w′ c (n + 1))) (delivered-more n) (λ f. rw (same-time n, same-time (n + 1), same-p) f) (a .1))
+      (or-more (delivered w c n) _ (delivered w′ c n) (leb (timeOf w′ c n + pOf w′ c) (timeOf w′ c (n + 1)))
+      (delivered-more n) (λ f. rw (same-time n, same-time (n + 1), same-p) f) (a .1))
 
   pub order-more : (n kept : ℕ) → inOrder w c n kept ≡ true → inOrder w′ c n kept ≡ true
   unfolding inOrder
@@ -54,7 +57,7 @@ module _ {w : Store} (s : Sound w) (c : ℕ) (h : c < channelsOf w) where
   entered-least : (j : ℕ) → j < hopsOf w c → enteredOf w c j ≤ enteredOf (moved w) c j
   unfolding enteredOf
   entered-least zero i = omega (arith, accepted-after s c few)
-  entered-least (suc j) i = sent-least s c j h (omega arith)
+  entered-least (suc j) i = sent-rises s c j h (omega arith)
 
   flows : (j : ℕ) → j < hopsOf w c → sentOf (moved w) c j ≤ enteredOf (moved w) c j
   flows j i = go (leaves w c j) refl
@@ -66,7 +69,7 @@ module _ {w : Store} (s : Sound w) (c : ℕ) (h : c < channelsOf w) where
   delivered-least : deliveredOf w c ≤ deliveredOf (moved w) c
   delivered-least =
       rw (hops-kept (moved-settled s) c few)
-      (sent-least s c (hopsOf w c - 1) h (omega (arith, s .channel c h .hops-least)))
+      (sent-rises s c (hopsOf w c - 1) h (omega (arith, s .channel c h .hops-least)))
 
   pub course : CourseIs (moved w) c
   course =

@@ -1,18 +1,18 @@
--- In a sound store the row that a link picks is a place of a route, and a packet leaves there; and where a packet of a channel leaves,
--- it is at that place's row. Assumes nothing.
+-- In a sound store the row that a link picks is a place of a route, where a packet is held and leaves; and where a packet of a
+-- channel leaves, it does so by that place's row. Assumes nothing.
 use Prim.Native.Nat.{ℕ, zero, suc, _<_}
-use mathlib.Core.Path.{_≡_, refl, sym, _∙_}
+use mathlib.Core.Path.{_≡_, refl, sym}
 use mathlib.Core.Bool.{true}
 use native.Mathlib.Decide.{decLt}
 use native.Mathlib.Omega.{arith}
 use borrow.Author.Tests.{ltb-true, eqb-true, eq-eqb}
 use Rattle.kinds.specs.Ranges.{mostChannels, mostHops}
-use Rattle.room.specs.Layout.{Store, linksOf, channelsOf, rowsOf, rowChannelOf, rowPlaceOf, hopsOf, routeOf, sentOf}
+use Rattle.room.specs.Layout.{Store, linksOf, channelsOf, rowChannelOf, rowPlaceOf, hopsOf, routeOf, sentOf}
 use Rattle.room.specs.Amounts.{enteredOf}
 use Rattle.room.proofs.Laws.Sound.{Good345, RowIs, Sound}
 use Rattle.traffic.specs.Pick.{pickOf}
+use Rattle.traffic.proofs.Laws.Pick.{picked}
 use Rattle.moved.specs.Room.{isOf, leaves}
-use Rattle.moved.proofs.Picked.{picked}
 
 -- a link stands once in a route
 place-once : {w : Store} {route : ℕ → ℕ} {n : ℕ} → Good345 w route n → (i j : ℕ) → i < n → j < n → route i ≡ route j → i ≡ j
@@ -23,7 +23,7 @@ place-once g i j h k e = go (decLt i j) (decLt j i)
     go (no l) (yes m) = absurd (g .new i j h m (sym e))
     go (no l) (no m) = omega (arith, l, m)
 
--- link l picks row k: the place j of channel c
+-- link l picks the row of channel c at place j
 pub record Leaving (w : Store) (l c j : ℕ) : Type 0 where
   pub channel : c < channelsOf w
   pub place : j < hopsOf w c
@@ -48,12 +48,12 @@ module _ {w : Store} (s : Sound w) where
   pub leaving : (l k : ℕ) → l < linksOf w → pickOf w l ≡ suc k → Leaving w l (rowChannelOf w l k) (rowPlaceOf w l k)
   leaving l k h e =
       let p = picked w l k e in
-      let r : RowIs w l k = s .rows l h .rows k (p .inside) in
+      let r : RowIs w l k = s .rows l h .rows k (p .0) in
       record {
         channel = r .channel;
         place = r .place;
         here = r .here;
-        held = ltb-true _ _ (p .held);
+        held = ltb-true _ _ (p .1);
         goes = rw (r .here, e) (eq-eqb (rowChannelOf w l k) (rowChannelOf w l k) refl);
       }
 
@@ -68,7 +68,7 @@ module _ {w : Store} (s : Sound w) where
         go zero f g = absurd (let z : _≡_ {A = ℕ} 0 1 = cc in omega arith)
         go (suc k) f g =
             let a : rowChannelOf w l k ≡ c = eqb-true _ _ g in
-            let r : RowIs w l k = s .rows l (s .channel c h .route .known j i) .rows k (picked w l k f .inside) in
+            let r : RowIs w l k = s .rows l (s .channel c h .route .known j i) .rows k (picked w l k f .0) in
             let m : rowPlaceOf w l k < hopsOf w c = rw a at (r .place) in
             record { row = k; picks = f; channel = a; place = place-once (s .channel c h .route) _ j m i (rw a at (r .here)) }
 

@@ -1,6 +1,6 @@
-pub mod Picked
 pub mod To
 pub mod Leaves
 pub mod After
 pub mod Course
+pub mod HasRoom
 pub mod Sound

@@ -1,4 +1,4 @@
--- The store after the picks of the first n links have moved: a packet more is sent at each row picked, and every other number is as
+-- The store after the picks of the first n links have moved: at each row picked one packet more is sent, every other number is as
 -- before. Assumes nothing.
 use Prim.Native.Nat.{ℕ, zero, suc, _+_, _<_}
 use mathlib.Core.Path.{_≡_, refl}
