@@ -4,3 +4,4 @@ pub mod After
 pub mod Course
 pub mod HasRoom
 pub mod Sound
+pub mod Still
