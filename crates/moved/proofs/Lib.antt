@@ -5,3 +5,4 @@ pub mod Course
 pub mod HasRoom
 pub mod Sound
 pub mod Still
+pub mod Conserved
