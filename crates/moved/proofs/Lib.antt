@@ -6,3 +6,4 @@ pub mod HasRoom
 pub mod Sound
 pub mod Still
 pub mod Conserved
+pub mod Order
