@@ -1,10 +1,9 @@
 -- "Within a channel: message order, then packet order": which packet goes next at a place after one has left it. Assumes nothing.
-use Prim.Native.Nat.{ℕ, zero, suc, _+_, _-_, _≤_, _<_}
-use mathlib.Core.Path.{_≡_, refl}
+use Prim.Native.Nat.{ℕ, _+_, _-_, _≤_, _<_}
+use mathlib.Core.Path.{_≡_}
 use mathlib.Core.Logic.{_⊎_, inl, inr}
-use mathlib.Core.Bool.{Bool, true, false}
+use mathlib.Core.Bool.{true, false}
 use native.Mathlib.Omega.{arith}
-use lib.Dec.{leb}
 use Rattle.kinds.specs.Ranges.{mostNumber}
 use Rattle.room.specs.Layout.{Store, ring, channelsOf, hopsOf, messagesOf, sentOf, endOf}
 use Rattle.room.specs.Amounts.{acceptedOf, deliveredOf, enteredOf}
@@ -13,6 +12,7 @@ use Rattle.alike.proofs.Settled.{channel-kept, hops-kept}
 use Rattle.traffic.specs.Head.{messageWith, messageOf, packetOf}
 use Rattle.traffic.specs.Slot.{moved}
 use Rattle.traffic.proofs.Laws.Head.{MessageIs, message-found, message-is, sent-least, entered-most}
+use Rattle.traffic.proofs.Laws.Ends.{message-same}
 use Rattle.traffic.proofs.Laws.Next.{NextIs, message-next}
 use Rattle.moved.specs.Room.{leaves}
 use Rattle.moved.proofs.Leaves.{few-channels, leaving-held}
@@ -35,26 +35,13 @@ pub record NextMessage (w w′ : Store) (c j : ℕ) : Type 0 where
   pub packet : packetOf w′ c j ≡ 0
   pub last : packetOf w c j + 1 ≡ packetsOf w c (messageOf w c j)
 
--- the message of a packet hangs on the messages' ends alone
-message-same : (w w′ : Store) (c x : ℕ) → ((n : ℕ) → endOf w′ c n ≡ endOf w c n) → (n kept : ℕ)
-    → messageWith w′ c x n kept ≡ messageWith w c x n kept
-unfolding messageWith
-message-same w w′ c x same n zero = refl
-message-same w w′ c x same zero (suc kept) = refl
-message-same w w′ c x same (suc n) (suc kept) = go (leb (endOf w c n) x) refl (message-same w w′ c x same n kept)
-  where
-    go : (b : Bool) → leb (endOf w c n) x ≡ b → messageWith w′ c x n kept ≡ messageWith w c x n kept
-        → messageWith w′ c x (suc n) (suc kept) ≡ messageWith w c x (suc n) (suc kept)
-    go true e r = let f : leb (endOf w′ c n) x ≡ true = rw (same n) e in rw (e, f, messageWith)
-    go false e r = let f : leb (endOf w′ c n) x ≡ false = rw (same n) e in rw (e, f, messageWith) r
-
 module _ {w : Store} (s : Sound w) (c j : ℕ) (h : c < channelsOf w) (i : j < hopsOf w c) where
   -- the message of packet x after the slot, and before it
   message-kept : (x : ℕ)
       → messageWith (moved w) c x (messagesOf (moved w) c) (ring - 1) ≡ messageWith w c x (messagesOf w c) (ring - 1)
   message-kept x =
       let few = few-channels s c h in
-      rw (messages-after s c few) (message-same w (moved w) c x (end-after s c few) (messagesOf w c) (ring - 1))
+      rw (messages-after s c few) (message-same w (moved w) c x (messagesOf w c) (ring - 1) (λ m a b. end-after s c few m))
 
   -- where no packet leaves, the same one goes next
   pub same-next : leaves w c j ≡ false → (messageOf (moved w) c j ≡ messageOf w c j) × (packetOf (moved w) c j ≡ packetOf w c j)

@@ -2,3 +2,4 @@ pub mod Head
 pub mod Best
 pub mod Pick
 pub mod Next
+pub mod Ends
