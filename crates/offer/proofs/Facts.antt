@@ -1,0 +1,64 @@
+-- What a sound store gives to code that works with channel c: what may be read, and bounds that no sum passes. Assumes nothing.
+use Prim.Native.Nat.{ℕ, _+_, _-_, _*_, _≤_, _<_}
+use mathlib.Core.Path.{_≡_}
+use mathlib.Core.Bool.{true}
+use native.Mathlib.Nat.{mul-le-mul}
+use native.Mathlib.Omega.{arith}
+use mir.Syntax.{w64}
+use mir.Val.{Fits}
+use Rattle.kinds.specs.Ranges.{mostChannels, mostC, mostP, mostB, mostNumber}
+use Rattle.room.specs.Layout.{Store, Long, channelsOf, cOf, pOf, messagesOf, timeOf, endOf}
+use Rattle.room.specs.Amounts.{acceptedOf, heldOf}
+use Rattle.room.specs.Ranged.{Ranged}
+use Rattle.room.specs.Sound.{soundOf}
+use Rattle.room.proofs.Laws.Sound.{ChannelIs, sound-is, sound-fit, fit-ranged}
+use Rattle.traffic.proofs.Laws.Head.{entered-most}
+
+module _ (w : Store) (c : ℕ) (sound : soundOf w ≡ true) (h : c < channelsOf w) where
+  pub long : Long w
+  long = sound-is w sound .long
+
+  few : c < mostChannels
+  few = omega (arith, sound-is w sound .counts .channels-most)
+
+  -- what reading a number of its record asks
+  pub readable : Long w × (c < mostChannels)
+  readable = (long, few)
+
+  pub channel : ChannelIs w c
+  channel = sound-is w sound .channel c h
+
+  pub ranged : Ranged w c
+  ranged = fit-ranged w (sound-fit w sound) c h
+
+  -- "packets accepted are at most C for each message"
+  accepted-small : acceptedOf w c ≤ mostC * mostNumber
+  accepted-small = omega (arith, channel .accepted-most, mul-le-mul (channel .good .c-most) (channel .messages-most))
+
+  -- each sum and product of the code, on the numbers as they were read
+  pub time-fits : (n t p : ℕ) → n ≡ messagesOf w c → t ≡ timeOf w c n → p ≡ pOf w c → Fits w64 (t + p)
+  time-fits n t p en et ep =
+      let a : t ≤ mostNumber = rw (et, en) (channel .time-most) in
+      let b : p ≤ mostP = rw ep (channel .good .p-most) in
+      record { fits = omega arith }
+
+  pub burst-fits : (b p : ℕ) → b ≤ mostB → p ≡ pOf w c → Fits w64 (b * p)
+  burst-fits b p l ep =
+      let m : p ≤ mostP = rw ep (channel .good .p-most) in
+      record { fits = omega (arith, mul-le-mul l m) }
+
+  pub count-fits : (n : ℕ) → n ≡ messagesOf w c → Fits w64 (n + 1)
+  count-fits n en =
+      let a : n ≤ mostNumber = rw en (channel .messages-most) in
+      record { fits = omega arith }
+
+  module _ (packets : ℕ) (most : packets ≤ cOf w c) where
+    pub end-fits : (n e : ℕ) → n ≡ messagesOf w c → e ≡ endOf w c n → Fits w64 (e + packets)
+    end-fits n e en ee =
+        let a : e ≤ mostC * mostNumber = rw (ee, en) accepted-small in
+        record { fits = omega (arith, channel .good .c-most) }
+
+    pub held-fits : (x : ℕ) → x ≡ heldOf w c 0 → Fits w64 (x + packets)
+    held-fits x ex =
+        let a : x ≤ mostC * mostNumber = rw ex (omega (arith, accepted-small, entered-most channel 0 (channel .hops-least))) in
+        record { fits = omega (arith, channel .good .c-most) }

@@ -1,0 +1,4 @@
+mod Facts
+mod Steps
+pub mod Outcome
+pub mod Laws

@@ -1,0 +1,123 @@
+// Offering a message: document 01, "Offering". First the answer is worked out, and nothing is written; then, if it is yes, the
+// message is.
+use kinds::Slot;
+use room::channel;
+use room::head;
+use traffic::Offered;
+ghost use mathlib.Core.Path.{_≡_};
+ghost use mathlib.Core.Bool.{true};
+ghost use Prim.Native.Nat.{_≤_, _<_};
+ghost use Rattle.kinds.specs.Ranges.{within};
+ghost use Rattle.room.specs.Layout.{channelsOf, cOf, messagesOf};
+ghost use Rattle.room.specs.Sound.{soundOf};
+ghost use Rattle.traffic.specs.Offer.{offerTime, inBurst, offered, offerAnswer, offerStore};
+ghost use Rattle.accepted.specs.Room.{hasRoom};
+
+// 12: whether a message has 1 to C packets.
+fn is_message(store: &[u64], c: usize, packets: u64) -> bool
+    requires { ⌜ soundOf (now store) ≡ true ⌝ }
+    requires { ⌜ c < channelsOf (now store) ⌝ }
+    ensures { λ r. ⌜ r ≡ within 1 (cOf (now (store .entry)) c) packets ⌝ }
+{
+    packets > 0 && packets <= channel::c(store, c)
+}
+
+// The logical time of the next message: the present slot, or p after the last message if that is later.
+fn next_time(store: &[u64], c: usize) -> u64
+    requires { ⌜ soundOf (now store) ≡ true ⌝ }
+    requires { ⌜ c < channelsOf (now store) ⌝ }
+    ensures { λ r. ⌜ r ≡ offerTime (now (store .entry)) c ⌝ }
+{
+    let clock = head::clock(store);
+    let n = channel::messages(store, c);
+    if n == 0 {
+        return clock;
+    }
+    let after = channel::time(store, c, n) + channel::p(store, c);
+    if after > clock { after } else { clock }
+}
+
+// 13: whether a message at that time is within the burst.
+fn in_burst(store: &[u64], c: usize, time: u64) -> bool
+    requires { ⌜ soundOf (now store) ≡ true ⌝ }
+    requires { ⌜ c < channelsOf (now store) ⌝ }
+    requires { ⌜ time ≡ offerTime (now store) c ⌝ }
+    ensures { λ r. ⌜ r ≡ inBurst (now (store .entry)) c ⌝ }
+{
+    let ahead = time - head::clock(store);
+    ahead <= (channel::b(store, c) - 1) * channel::p(store, c)
+}
+
+// 17, looked at last: whether one message more may be counted and kept, and its packets held.
+fn has_room(store: &[u64], c: usize, packets: u64) -> bool
+    requires { ⌜ soundOf (now store) ≡ true ⌝ }
+    requires { ⌜ c < channelsOf (now store) ⌝ }
+    requires { ⌜ packets ≤ cOf (now store) c ⌝ }
+    ensures { λ r. ⌜ r ≡ hasRoom (now (store .entry)) c packets ⌝ }
+{
+    let n = channel::messages(store, c);
+    if !Slot::is_number(n + 1) {
+        return false;
+    }
+    if !stream::in_order(store, c, n, room::UNDELIVERED - 1) {
+        return false;
+    }
+    route::held(store, c, 0) + packets <= route::reserved(store, c, 0)
+}
+
+// The answer to an offer. Nothing is written.
+fn answer(store: &[u64], c: u64, packets: u64) -> Offered
+    ensures { λ r. ⌜ r ≡ offerAnswer (now (store .entry)) c packets ⌝ }
+{
+    if !sound::is_sound(store) {
+        return Offered::Refused(17, 0);
+    }
+    let clock = head::clock(store);
+    let channels = head::channels(store) as u64;
+    if clock >= Slot::END {
+        return Offered::Refused(14, 0);
+    }
+    if c >= channels {
+        return Offered::Refused(11, 0);
+    }
+    let x = c as usize;
+    if !is_message(store, x, packets) {
+        return Offered::Refused(12, 0);
+    }
+    let time = next_time(store, x);
+    if !in_burst(store, x, time) {
+        return Offered::Refused(13, 0);
+    }
+    if !has_room(store, x, packets) {
+        return Offered::Refused(17, 0);
+    }
+    Offered::Accepted(channel::messages(store, x), time)
+}
+
+// What an accepted message writes: its logical time, its end, and that there is one message more. `n` are those before it.
+fn put_message(store: &mut [u64], c: usize, n: u64, time: u64, packets: u64)
+    requires { ⌜ soundOf (now store) ≡ true ⌝ }
+    requires { ⌜ c < channelsOf (now store) ⌝ }
+    requires { ⌜ packets ≤ cOf (now store) c ⌝ }
+    requires { ⌜ n ≡ messagesOf (now store) c ⌝ }
+    requires { ⌜ time ≡ offerTime (now store) c ⌝ }
+    ensures { λ _. ⌜ now (store .exit) ≡ offered (now (store .entry)) c packets ⌝ }
+{
+    let end = channel::end(store, c, n) + packets;
+    let new = n + 1;
+    channel::put_time(store, c, new, time);
+    channel::put_end(store, c, new, end);
+    channel::put_messages(store, c, new);
+}
+
+// The public call: accepts a message, or refuses it and leaves the store alone.
+pub fn offer(store: &mut [u64], c: u64, packets: u64) -> Offered
+    ensures { λ r. ⌜ r ≡ offerAnswer (now (store .entry)) c packets ⌝ }
+    ensures { λ _. ⌜ now (store .exit) ≡ offerStore (now (store .entry)) c packets ⌝ }
+{
+    let offered = answer(store, c, packets);
+    if let Offered::Accepted(n, time) = offered {
+        put_message(store, c as usize, n, time, packets);
+    }
+    offered
+}
