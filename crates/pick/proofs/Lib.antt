@@ -1,1 +1,3 @@
 pub mod Picks
+pub mod Rows
+pub mod Steps

@@ -1,1 +1,90 @@
 // Which packet each link picks in a slot: document 01, "A slot". Nothing is written.
+use room::channel;
+use room::head;
+use room::link;
+ghost use mathlib.Core.Path.{_≡_};
+ghost use mathlib.Core.Bool.{true};
+ghost use Prim.Native.Nat.{_<_};
+ghost use Rattle.room.specs.Layout.{linksOf};
+ghost use Rattle.room.specs.Sound.{soundOf};
+ghost use Rattle.traffic.specs.Pick.{pickFrom, pickOf};
+ghost use Rattle.pick.specs.Rows.{goesFirst, Timed};
+
+// Whether a packet of channel `c` goes before the best one so far, that of channel `other` with the key `than`, at position
+// `best`, 0 for none: by the key, "ties to the lower channel number".
+fn goes_before(key: u64, c: usize, best: usize, than: u64, other: usize) -> bool
+    ensures { λ r. ⌜ r ≡ goesFirst key c best than other ⌝ }
+{
+    if best == 0 {
+        return true;
+    }
+    if key < than {
+        return true;
+    }
+    if key != than {
+        return false;
+    }
+    c < other
+}
+
+// The best current packet, at position `due`, 0 for none; with none, the best early one, at `soon`, if its logical time
+// `time` is within the horizon.
+fn chosen(store: &[u64], l: usize, due: usize, soon: usize, time: u64) -> usize
+    requires { ⌜ soundOf (now store) ≡ true ⌝ }
+    requires { ⌜ l < linksOf (now store) ⌝ }
+    requires { ⌜ Timed (now store) l soon time ⌝ }
+    ensures { λ r. ⌜ r ≡ pickFrom (now (store .entry)) l due soon ⌝ }
+{
+    if due > 0 {
+        return due;
+    }
+    if soon == 0 {
+        return 0;
+    }
+    let last = head::clock(store) + link::horizon(store, l);
+    if time <= last {
+        return soon;
+    }
+    0
+}
+
+// The position, counted from 1, of the row of link `l` whose packet is picked; 0 for none.
+pub fn pick(store: &[u64], l: usize) -> usize
+    requires { ⌜ soundOf (now store) ≡ true ⌝ }
+    requires { ⌜ l < linksOf (now store) ⌝ }
+    ensures { λ r. ⌜ r ≡ pickOf (now (store .entry)) l ⌝ }
+{
+    let now = head::clock(store);
+    let rows = link::rows(store, l);
+    // the best current packet so far, and the best early one: where it stands, its key and its channel
+    let mut due: usize = 0;
+    let mut deadline: u64 = 0;
+    let mut due_channel: usize = 0;
+    let mut soon: usize = 0;
+    let mut time: u64 = 0;
+    let mut soon_channel: usize = 0;
+    let mut k: usize = 0;
+    while k < rows {
+        let c = link::row_channel(store, l, k);
+        let j = link::row_place(store, l, k);
+        k += 1;
+        if channel::sent(store, c, j) < route::entered(store, c, j) {
+            let logical = packet::logical(store, c, j);
+            if logical > now {
+                if goes_before(logical, c, soon, time, soon_channel) {
+                    soon = k;
+                    time = logical;
+                    soon_channel = c;
+                }
+            } else {
+                let end = logical + channel::delay(store, c, j);
+                if goes_before(end, c, due, deadline, due_channel) {
+                    due = k;
+                    deadline = end;
+                    due_channel = c;
+                }
+            }
+        }
+    }
+    chosen(store, l, due, soon, time)
+}
