@@ -1,3 +1,3 @@
-pub mod Picks
+pub mod Laws
 pub mod Rows
 pub mod Steps

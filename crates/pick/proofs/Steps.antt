@@ -1,16 +1,21 @@
--- The pass over a link's rows that keeps the best current packet and the best early one. Assumes nothing.
+-- The pass over a link's rows that keeps the best current packet and the best early one, and the pass over the links.
+-- Assumes nothing.
 use Prim.Native.Nat.{ℕ, zero, suc, _+_, _≤_, _<_}
 use mathlib.Core.Path.{_≡_, refl, sym, _∙_}
 use mathlib.Core.Bool.{Bool, true, false}
+use mathlib.Core.List.{List}
 use native.Mathlib.Numerals.{add-one}
 use native.Mathlib.Omega.{arith}
 use lib.Dec.{ltb}
+use lib.ListN.{set, replicate}
 use borrow.Author.Tests.{lt-ltb, le-ltb, eq-eqb, ne-eqb, le-leb, lt-leb}
-use Rattle.room.specs.Layout.{Store, clockOf, horizonOf, rowsOf, rowChannelOf, delayOf}
+use Rattle.room.specs.Layout.{Store, linksOf, clockOf, horizonOf, rowsOf, rowChannelOf, delayOf}
 use Rattle.traffic.specs.Head.{isHeld}
 use Rattle.traffic.specs.Pick.{goesBefore, better, bestOf, rowCurrent, rowEarly, rowLogical, rowDeadline, dueOf, soonOf}
 use Rattle.traffic.specs.Pick.{withinHorizon, pickFrom, pickOf}
+use Rattle.pick.specs.Picks.{picksTo}
 use Rattle.pick.specs.Rows.{goesFirst, Timed}
+use Rattle.pick.proofs.Laws.{picks-none, picks-more}
 use Rattle.pick.proofs.Rows.{Row, Held, empty-current, empty-early, held-logical, held-deadline}
 use Rattle.pick.proofs.Rows.{due-current, due-early, soon-current, soon-early}
 
@@ -172,3 +177,20 @@ module _ (w : Store) (l : ℕ) where
 
     pub chosen-far : (due soon : ℕ) → Timed w l soon time → due ≤ 0 → n + b < time → 0 ≡ pickFrom w l due soon
     chosen-far due soon t o h = sym (none-due due soon o ∙ far soon t h)
+
+-- the links below l have picked
+pub record Picking (w : Store) (l : ℕ) (picked : List ℕ) : Type 0 where
+  pub place : l ≤ linksOf w
+  pub same : picked ≡ picksTo w l
+
+pub picking-none : (w : Store) → Picking w 0 (replicate 16 0)
+picking-none w = record { place = omega arith; same = sym (picks-none w) }
+
+module _ {w : Store} {l : ℕ} {picked : List ℕ} (a : Picking w l picked) where
+  pub picking-more : l < linksOf w → {v : ℕ} → v ≡ pickOf w l → Picking w (l + 1) (set picked l v)
+  picking-more h e = record { place = omega arith; same = rw (picks-more w l, a .same, e) }
+
+  pub picking-done : linksOf w ≤ l → picked ≡ picksTo w (linksOf w)
+  picking-done h =
+      let e : l ≡ linksOf w = omega (arith, a .place) in
+      rw e at (a .same)

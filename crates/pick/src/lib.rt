@@ -8,6 +8,7 @@ ghost use Prim.Native.Nat.{_<_};
 ghost use Rattle.room.specs.Layout.{linksOf};
 ghost use Rattle.room.specs.Sound.{soundOf};
 ghost use Rattle.traffic.specs.Pick.{pickFrom, pickOf};
+ghost use Rattle.pick.specs.Picks.{picksTo};
 ghost use Rattle.pick.specs.Rows.{goesFirst, Timed};
 
 // Whether a packet of channel `c` goes before the best one so far, that of channel `other` with the key `than`, at position
@@ -87,4 +88,19 @@ pub fn pick(store: &[u64], l: usize) -> usize
         }
     }
     chosen(store, l, due, soon, time)
+}
+
+// What each link picks; 0 where there is no link.
+pub fn picks(store: &[u64]) -> [u64; 16]
+    requires { ⌜ soundOf (now store) ≡ true ⌝ }
+    ensures { λ r. ⌜ r ≡ picksTo (now (store .entry)) (linksOf (now (store .entry))) ⌝ }
+{
+    let links = head::links(store);
+    let mut picked = [0u64; 16];
+    let mut l: usize = 0;
+    while l < links {
+        picked[l] = pick(store, l) as u64;
+        l += 1;
+    }
+    picked
 }
