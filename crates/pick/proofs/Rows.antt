@@ -6,7 +6,7 @@ use native.Mathlib.Omega.{arith}
 use mir.Syntax.{w64}
 use mir.Val.{Fits}
 use borrow.Author.Tests.{lt-ltb, le-ltb, le-leb, lt-leb}
-use Rattle.kinds.specs.Ranges.{mostLinks, mostRows, mostChannels, mostHops}
+use Rattle.kinds.specs.Ranges.{mostLinks, mostRows, mostChannels, mostHops, mostP, endSlot}
 use Rattle.room.specs.Layout.{Store, Long, linksOf, channelsOf, clockOf, horizonOf, rowsOf, rowChannelOf, rowPlaceOf}
 use Rattle.room.specs.Layout.{hopsOf, delayOf, sentOf}
 use Rattle.room.specs.Amounts.{enteredOf}
@@ -14,7 +14,7 @@ use Rattle.room.specs.Sound.{soundOf}
 use Rattle.room.proofs.Laws.Sound.{Sound, RowIs, sound-is}
 use Rattle.traffic.specs.Head.{logicalOf, isHeld}
 use Rattle.traffic.specs.Pick.{rowHeld, rowCurrent, rowEarly, rowLogical, rowDeadline}
-use Rattle.packet.proofs.Laws.{place-ready, delay-small, logical-most}
+use Rattle.packet.proofs.Laws.{place-ready, delay-small}
 
 -- link l is there, and can be read
 module _ (w : Store) (e : soundOf w ≡ true) (l : ℕ) (h : l < linksOf w) where
@@ -109,8 +109,9 @@ module _ {w : Store} {l k c j now t : ℕ} (p : Held w l k c j now t) where
     pub held-deadline : t + d ≡ rowDeadline w l k
     held-deadline = rw (p .time-is, e, p .row .its-channel, p .row .its-place)
 
-    pub deadline-fits : Fits w64 (t + d)
-    deadline-fits =
+    -- both far from 2 ^ 64
+    pub held-small : (now ≤ endSlot) × (d ≤ mostP)
+    held-small =
         let r = p .row in
-        let most = logical-most w (r .sound) c j (row-channel r) (row-place r) (p .held) in
-        record { fits = omega (arith, p .time-is, most, delay-small w (r .sound) c j (row-channel r) (row-place r)) }
+        let small = delay-small w (r .sound) c j (row-channel r) (row-place r) in
+        (rw (p .now-is) (sound-is w (r .sound) .counts .clock-most), rw e small)

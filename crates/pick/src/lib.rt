@@ -28,12 +28,12 @@ fn goes_before(key: u64, c: usize, best: usize, than: u64, other: usize) -> bool
     c < other
 }
 
-// The best current packet, at position `due`, 0 for none; with none, the best early one, at `soon`, if its logical time
-// `time` is within the horizon.
-fn chosen(store: &[u64], l: usize, due: usize, soon: usize, time: u64) -> usize
+// The current packet with the earliest deadline, at position `due`, 0 for none; with none, the early one with the least
+// logical time, at `soon`, if that is within the horizon.
+fn chosen(store: &[u64], l: usize, due: usize, soon: usize, least: u64) -> usize
     requires { ⌜ soundOf (now store) ≡ true ⌝ }
     requires { ⌜ l < linksOf (now store) ⌝ }
-    requires { ⌜ Timed (now store) l soon time ⌝ }
+    requires { ⌜ Timed (now store) l soon least ⌝ }
     ensures { λ r. ⌜ r ≡ pickFrom (now (store .entry)) l due soon ⌝ }
 {
     if due > 0 {
@@ -43,7 +43,7 @@ fn chosen(store: &[u64], l: usize, due: usize, soon: usize, time: u64) -> usize
         return 0;
     }
     let last = head::clock(store) + link::horizon(store, l);
-    if time <= last {
+    if least <= last {
         return soon;
     }
     0
@@ -57,12 +57,12 @@ pub fn pick(store: &[u64], l: usize) -> usize
 {
     let now = head::clock(store);
     let rows = link::rows(store, l);
-    // the best current packet so far, and the best early one: where it stands, its key and its channel
+    // so far, the current packet with the earliest deadline, and the early one with the least logical time
     let mut due: usize = 0;
-    let mut deadline: u64 = 0;
+    let mut earliest: u64 = 0;
     let mut due_channel: usize = 0;
     let mut soon: usize = 0;
-    let mut time: u64 = 0;
+    let mut least: u64 = 0;
     let mut soon_channel: usize = 0;
     let mut k: usize = 0;
     while k < rows {
@@ -72,22 +72,22 @@ pub fn pick(store: &[u64], l: usize) -> usize
         if channel::sent(store, c, j) < route::entered(store, c, j) {
             let logical = packet::logical(store, c, j);
             if logical > now {
-                if goes_before(logical, c, soon, time, soon_channel) {
+                if goes_before(logical, c, soon, least, soon_channel) {
                     soon = k;
-                    time = logical;
+                    least = logical;
                     soon_channel = c;
                 }
             } else {
-                let end = logical + channel::delay(store, c, j);
-                if goes_before(end, c, due, deadline, due_channel) {
+                let deadline = logical + channel::delay(store, c, j);
+                if goes_before(deadline, c, due, earliest, due_channel) {
                     due = k;
-                    deadline = end;
+                    earliest = deadline;
                     due_channel = c;
                 }
             }
         }
     }
-    chosen(store, l, due, soon, time)
+    chosen(store, l, due, soon, least)
 }
 
 // What each link picks; 0 where there is no link.

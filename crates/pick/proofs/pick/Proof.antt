@@ -8,18 +8,18 @@ use Rattle.kinds.specs.Ranges.{mostLinks, mostRows}
 use Rattle.room.specs.Layout.{Long, rowsOf}
 use Rattle.traffic.specs.Head.{isHeld}
 use Rattle.pick.proofs.Rows.{link-ready, rows-few, Row, row-channel, row-place, row-ready, row-holds, row-empty, Held}
-use Rattle.pick.proofs.Rows.{deadline-fits}
+use Rattle.pick.proofs.Rows.{held-small}
 use Rattle.pick.proofs.Steps.{Choosing, choosing-none, choosing-pass, choosing-soon, choosing-later, choosing-due}
 use Rattle.pick.proofs.Steps.{choosing-after, choosing-done}
 use Rattle.pick.proofs.pick.Statement.{statement}
 use Rattle.pick.proofs.pick.Tie as tie
 
 abbrev Inv-loop : tie.InvT-loop
-Inv-loop store l now rows _ _ _ _ _ _ _ due deadline due-channel soon time soon-channel k =
-    Choosing store l due deadline due-channel soon time soon-channel k
+Inv-loop store l now rows _ _ _ _ _ _ _ due earliest due-channel soon least soon-channel k =
+    Choosing store l due earliest due-channel soon least soon-channel k
 
 abbrev μ-loop : tie.MeasureT-loop
-μ-loop store l now rows _ _ _ _ _ _ _ due deadline due-channel soon time soon-channel k =
+μ-loop store l now rows _ _ _ _ _ _ _ due earliest due-channel soon least soon-channel k =
     rows - k
 
 abbrev start : tie.At-loop Inv-loop μ-loop → tie.Start Inv-loop μ-loop
@@ -131,8 +131,8 @@ loop-again-2 c =
 delay-requires : tie.Need-delay-requires Inv-loop μ-loop
 delay-requires c κs = row-ready (row (c .before .before .before .before .before))
 
-add-end : tie.Need-add-end Inv-loop μ-loop
-add-end c = deadline-fits (packet (c .before .before)) (c .delay .ensures)
+add-deadline : tie.Need-add-deadline Inv-loop μ-loop
+add-deadline c = omega (arith, c .before .if2 .left, held-small (packet (c .before .before)) (c .delay .ensures))
 
 goes-before-requires-2 : tie.Need-goes-before-requires-2 Inv-loop μ-loop
 goes-before-requires-2 c κs = search needs
@@ -201,7 +201,7 @@ pick-spec =
     loop-less-2
     loop-again-2
     delay-requires
-    add-end
+    add-deadline
     goes-before-requires-2
     loop-less-3
     loop-again-3
