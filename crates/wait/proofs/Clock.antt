@@ -6,9 +6,9 @@ use native.Mathlib.Omega.{arith}
 use lib.Dec.{leb}
 use lib.Seq.{set-getD}
 use Rattle.kinds.specs.Ranges.{endSlot}
-use Rattle.room.specs.Layout.{Store, Long, ring, numberAt, withClock, clockAt, linksAt, horizonAt, rowsAt, rowChannelAt, rowPlaceAt}
-use Rattle.room.specs.Layout.{messagesAt, delayAt, sentAt, timeAt, endAt, clockOf, linksOf, channelsOf, horizonOf, rowsOf}
-use Rattle.room.specs.Layout.{rowChannelOf, rowPlaceOf, hopsOf, messagesOf, delayOf, sentOf, timeOf, endOf}
+use Rattle.room.specs.Layout.{Store, Long, ring, numberAt, withClock, clockAt, linksAt, horizonAt, rowsAt, rowChannelAt}
+use Rattle.room.specs.Layout.{rowPlaceAt, messagesAt, delayAt, sentAt, timeAt, endAt, clockOf, linksOf, channelsOf, horizonOf}
+use Rattle.room.specs.Layout.{rowsOf, rowChannelOf, rowPlaceOf, hopsOf, messagesOf, delayOf, sentOf, timeOf, endOf}
 use Rattle.room.specs.Amounts.{reservedOf, enteredOf, heldOf}
 use Rattle.room.specs.Sound.{soundOf}
 use Rattle.room.proofs.Laws.Folds.{sum-same}

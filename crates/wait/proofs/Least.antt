@@ -1,5 +1,5 @@
 -- The smallest of what the rows have to wait is how many slots from now are quiet. Assumes nothing.
-use Prim.Native.Nat.{ℕ, zero, suc, _+_, _-_, _<_, min}
+use Prim.Native.Nat.{ℕ, zero, suc, _+_, _-_, _≤_, _<_, min}
 use mathlib.Core.Path.{_≡_, refl, _∙_}
 use mathlib.Core.Bool.{Bool, true, false}
 use native.Mathlib.Numerals.{add-one}
@@ -123,6 +123,9 @@ module _ (w : Store) where
   pub idle-first : soundOf w ≡ true → idleOf w ≡ firstNot (quiet w) (endSlot - clockOf w)
   unfolding idleOf
   idle-first e = rw (e, idleOf)
+
+  pub idle-most : soundOf w ≡ true → idleOf w ≤ endSlot - clockOf w
+  idle-most e = rw (idle-first e) (first-most (quiet w) (endSlot - clockOf w))
 
   pub idle-least : soundOf w ≡ true → idleOf w ≡ leastTo w (linksOf w)
   idle-least e = idle-first e ∙ least-first (sound-fit w e .long)

@@ -1,5 +1,7 @@
 pub mod Clock
 pub mod Quiet
 pub mod Least
-pub mod Skip
+pub mod Skipped
 pub mod Run
+mod Rows
+mod Steps

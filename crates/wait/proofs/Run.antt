@@ -12,7 +12,7 @@ use Rattle.kinds.specs.Ranges.{endSlot}
 use Rattle.room.specs.Layout.{Store, withClock, clockAt, linksOf, clockOf}
 use Rattle.room.specs.Sound.{soundOf}
 use Rattle.room.specs.Folds.{firstNot}
-use Rattle.room.proofs.Laws.Folds.{below, every-at, first-is, first-most}
+use Rattle.room.proofs.Laws.Folds.{below, every-at, first-is}
 use Rattle.room.proofs.Laws.Sound.{sound-fit}
 use Rattle.checks.proofs.Laws.{all-passed}
 use Rattle.traffic.specs.declared.Turn.the-variants.{Ran, Refused}
@@ -22,8 +22,8 @@ use Rattle.traffic.specs.Idle.{quiet, idleOf, skipped, skipStore}
 use Rattle.wait.specs.Run.{run}
 use Rattle.wait.proofs.Clock.{clock-set, clock-stays, links-same, clock-sound}
 use Rattle.wait.proofs.Quiet.{quiet-rests, rests-quiet}
-use Rattle.wait.proofs.Least.{idle-none, idle-first}
-use Rattle.wait.proofs.Skip.{skip-none, skip-sound}
+use Rattle.wait.proofs.Least.{idle-none, idle-first, idle-most}
+use Rattle.wait.proofs.Skipped.{skip-none, skip-sound}
 
 -- the first n links pick none
 abbrev NonePicked : Store → (n : ℕ) → Type 0
@@ -98,9 +98,6 @@ module _ (w : Store) (e : soundOf w ≡ true) where
       every-at (quiet w) (firstNot (quiet w) (endSlot - clockOf w)) (first-is (quiet w) (endSlot - clockOf w) .before) i
       (rw (idle-first w e) at h)
 
-  idle-most : idleOf w ≤ endSlot - clockOf w
-  idle-most = rw (idle-first w e) (first-most (quiet w) (endSlot - clockOf w))
-
   clock-is : (i : ℕ) → clockOf (withClock w (clockOf w + i)) ≡ clockOf w + i
   clock-is i = clock-set w (clockOf w + i) (sound-fit w e .long)
 
@@ -120,8 +117,8 @@ module _ (w : Store) (e : soundOf w ≡ true) where
     -- the slots up to `idleOf`, one by one
     idle-still : (i : ℕ) → i < idleOf w → Still (withClock w (clockOf w + i)) room
     idle-still i h = record {
-      sound = clock-sound w (clockOf w + i) e (omega (arith, idle-most));
-      clock = rw (clock-is i) (omega (arith, idle-most));
+      sound = clock-sound w (clockOf w + i) e (omega (arith, idle-most w e));
+      clock = rw (clock-is i) (omega (arith, idle-most w e));
       wide = rw (links-same w (clockOf w + i)) wide;
       none = rw (links-same w (clockOf w + i)) (quiet-rests w i (idle-quiet i h));
     }

@@ -1,5 +1,5 @@
--- How long the links have to wait, as the code looks at it: the smallest of what their rows have to wait. proofs/ shows that as many
--- slots from now are quiet, one after the other.
+-- How long the links have to wait, as the code looks at it: the smallest of what their rows have to wait. proofs/ shows that as
+-- many slots from now are quiet, one after the other.
 use Prim.Native.Nat.{ℕ, zero, suc, _+_, _-_, min}
 use mathlib.Core.Bool.{Bool, true, false}
 use Rattle.kinds.specs.Ranges.{endSlot}

@@ -1,0 +1,51 @@
+-- What a skip leaves, by whether any slot is skipped. Assumes nothing.
+use Prim.Native.Nat.{ℕ, _+_, _≤_, min}
+use mathlib.Core.Path.{_≡_, refl, sym, _∙_}
+use mathlib.Core.Bool.{Bool, true, false}
+use native.Mathlib.Omega.{arith}
+use Rattle.kinds.specs.Ranges.{endSlot}
+use Rattle.room.specs.Layout.{Store, withClock, clockOf}
+use Rattle.room.specs.Sound.{soundOf}
+use Rattle.room.proofs.Laws.Sound.{sound-is}
+use Rattle.traffic.specs.Idle.{idleOf, skipped, skipStore}
+use Rattle.wait.proofs.Clock.{clock-stays}
+use Rattle.wait.proofs.Least.{idle-none, idle-most}
+
+module _ (w : Store) (n : ℕ) where
+  pub skip-sound : soundOf w ≡ true → skipStore w n ≡ withClock w (clockOf w + skipped w n)
+  unfolding skipStore
+  skip-sound e = rw (e, skipStore)
+
+  pub skip-none : skipped w n ≡ 0 → skipStore w n ≡ w
+  unfolding skipStore
+  skip-none z = go (soundOf w) refl
+    where
+      go : (t : Bool) → soundOf w ≡ t → skipStore w n ≡ w
+      go true e = rw (e, skipStore) (clock-stays w (skipped w n) z)
+      go false e = rw (e, skipStore)
+
+  -- as the code works it out
+  module _ {most slots : ℕ} (a : most ≡ idleOf w) (b : slots ≡ min n most) where
+    pub skips : slots ≡ skipped w n
+    skips = rw a at b
+
+    pub skips-none : slots ≡ 0 → (0 ≡ skipped w n) × (w ≡ skipStore w n)
+    skips-none z =
+        let e : skipped w n ≡ 0 = sym skips ∙ z in
+        (sym e, sym (skip-none e))
+
+    -- slots are skipped only in a sound store, and not past the end slot
+    pub some-sound : (slots ≡ 0 → ⊥) → soundOf w ≡ true
+    some-sound z = go (soundOf w) refl
+      where
+        go : (t : Bool) → soundOf w ≡ t → soundOf w ≡ true
+        go true e = e
+        go false e = absurd (z (omega (arith, idle-none w e)))
+
+    pub some-fits : (slots ≡ 0 → ⊥) → clockOf w + slots ≤ endSlot
+    some-fits z =
+        let e = some-sound z in
+        omega (arith, idle-most w e, sound-is w e .counts .clock-most)
+
+    pub skips-some : (slots ≡ 0 → ⊥) → {clock : ℕ} → clock ≡ clockOf w → withClock w (clock + slots) ≡ skipStore w n
+    skips-some z s = rw (s, skips) (sym (skip-sound (some-sound z)))
