@@ -1,21 +1,15 @@
 -- What is held: in a sound store never more than is reserved, and after an accepted offer the message's packets more, at the
 -- first place of the channel's route alone. Assumes nothing.
-use Prim.Native.Nat.{ℕ, suc, _+_, _≤_, _<_}
+use Prim.Native.Nat.{ℕ, suc, _+_, _<_}
 use mathlib.Core.Path.{_≡_}
 use native.Mathlib.Omega.{arith}
 use Rattle.kinds.specs.Ranges.{mostHops, mostChannels}
-use Rattle.room.specs.Layout.{Store, Long, channelsOf, hopsOf}
-use Rattle.room.specs.Amounts.{acceptedOf, reservedOf, enteredOf, heldOf}
-use Rattle.room.proofs.Laws.Sound.{ChannelIs, Sound}
+use Rattle.room.specs.Layout.{Store, Long, hopsOf}
+use Rattle.room.specs.Amounts.{acceptedOf, enteredOf, heldOf}
+use Rattle.room.proofs.Laws.Sound.{ChannelIs}
 use Rattle.traffic.specs.Offer.{offered}
 use Rattle.accepted.proofs.Frame.{offered-messages, offered-end}
 use Rattle.accepted.proofs.Order.{sent-kept}
-
-pub held-most : {w : Store} → Sound w → (c j : ℕ) → c < channelsOf w → j < hopsOf w c → heldOf w c j ≤ reservedOf w c j
-held-most {w} s c j h i =
-    let r = s .row c j h i in
-    let l = s .channel c h .route .known j i in
-    rw (r .channel, r .place) at (s .rows _ l .holds (r .at) (r .inside))
 
 module _ (w : Store) (c packets : ℕ) (h : c < mostChannels) (long : Long w) (k : ChannelIs w c) where
   pub accepted-new : acceptedOf (offered w c packets) c ≡ acceptedOf w c + packets

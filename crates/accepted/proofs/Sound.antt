@@ -1,7 +1,7 @@
 -- The store that an accepted offer leaves is sound exactly where there is room. Assumes nothing.
 use Prim.Native.Nat.{ℕ, zero, suc, _+_, _-_, _*_, _≤_, _<_}
-use mathlib.Core.Path.{_≡_, refl, sym, _∙_}
-use mathlib.Core.Bool.{Bool, true, false, _&&_, and-eq-true-iff}
+use mathlib.Core.Path.{_≡_, sym, _∙_}
+use mathlib.Core.Bool.{true, _&&_, and-eq-true-iff}
 use native.Mathlib.Decide.{ℕ-discrete}
 use native.Mathlib.Nat.{mul-le-mul}
 use native.Mathlib.Omega.{arith}
@@ -11,14 +11,15 @@ use Rattle.kinds.specs.Ranges.{mostChannels, mostHops, mostB, mostNumber, endSl
 use Rattle.room.specs.Layout.{Store, ring, channelsOf, clockOf, cOf, pOf, bOf, hopsOf, messagesOf}
 use Rattle.room.specs.Amounts.{reservedOf, enteredOf, heldOf}
 use Rattle.room.specs.Sound.{inOrder, soundOf}
-use Rattle.room.proofs.Laws.Sound.{both, ChannelIs, Sound, sound-is, is-sound}
+use Rattle.room.proofs.Laws.Folds.{one-test}
+use Rattle.room.proofs.Laws.Sound.{both, ChannelIs, Sound, sound-is, is-sound, held-most}
 use Rattle.alike.proofs.Same.{channel-same, held-same}
 use Rattle.alike.proofs.Settled.{Settled, CourseIs, network-same, channels-same, c-kept, hops-kept, reserved-kept, settled-sound}
 use Rattle.traffic.specs.Offer.{offerTime, inBurst, offered}
 use Rattle.accepted.specs.Room.{hasRoom}
 use Rattle.accepted.proofs.Frame.{offered-clock, offered-other, offered-settled, offered-messages, offered-time}
 use Rattle.accepted.proofs.Order.{sent-kept, order-new}
-use Rattle.accepted.proofs.Held.{held-most, accepted-new, held-new, held-later}
+use Rattle.accepted.proofs.Held.{accepted-new, held-new, held-later}
 
 -- the course of a channel whose record is as before
 course-of : {w : Store} {c : ℕ} → ChannelIs w c → CourseIs w c
@@ -29,12 +30,6 @@ course-of k = record {
   accepted-most = k .accepted-most;
   order = k .order;
 }
-
--- two tests that hold together
-equal : (a b : Bool) → (a ≡ true → b ≡ true) → (b ≡ true → a ≡ true) → a ≡ b
-equal true b f g = sym (f refl)
-equal false true f g = g refl
-equal false false f g = refl
 
 module _ (w : Store) (c packets : ℕ) (sound : soundOf w ≡ true) (clock : clockOf w < endSlot) (h : c < channelsOf w)
     (least : 1 ≤ packets) (most : packets ≤ cOf w c) (burst : inBurst w c ≡ true) where
@@ -130,4 +125,4 @@ module _ (w : Store) (c packets : ℕ) (sound : soundOf w ≡ true) (clock : clo
 
   -- The second 17 of an offer: what the code looks at is whether the store after it is sound.
   pub offered-sound : soundOf (offered w c packets) ≡ hasRoom w c packets
-  offered-sound = equal _ _ room-before sound-after
+  offered-sound = one-test _ _ room-before sound-after

@@ -1,6 +1,6 @@
 -- The store that a slot leaves is sound exactly if each picked packet has room at the next place of its route. Assumes nothing.
 use Prim.Native.Nat.{ℕ, zero, suc, _+_, _-_, _≤_, _<_}
-use mathlib.Core.Path.{_≡_, refl, sym}
+use mathlib.Core.Path.{_≡_, refl}
 use mathlib.Core.Bool.{Bool, true, false, _||_}
 use mathlib.Core.Logic.{inl, inr}
 use native.Mathlib.Numerals.{add-one}
@@ -12,8 +12,8 @@ use Rattle.room.specs.Layout.{Store, linksOf, channelsOf, clockOf, rowChannelOf
 use Rattle.room.specs.Folds.{every}
 use Rattle.room.specs.Amounts.{reservedOf, acceptedOf, enteredOf, heldOf}
 use Rattle.room.specs.Sound.{soundOf}
-use Rattle.room.proofs.Laws.Folds.{every-at, every-true}
-use Rattle.room.proofs.Laws.Sound.{Sound, sound-is, is-sound}
+use Rattle.room.proofs.Laws.Folds.{one-test, every-at, every-true}
+use Rattle.room.proofs.Laws.Sound.{Sound, sound-is, is-sound, held-most}
 use Rattle.alike.proofs.Settled.{reserved-kept, hops-kept, channels-same, settled-sound}
 use Rattle.traffic.specs.Pick.{pickOf}
 use Rattle.traffic.specs.Slot.{moved}
@@ -22,12 +22,6 @@ use Rattle.moved.proofs.HasRoom.{RoomIs, room-is, is-room}
 use Rattle.moved.proofs.Leaves.{few-channels, leaving, row-leaving}
 use Rattle.moved.proofs.After.{moved-settled, accepted-after, clock-after, sent-goes, sent-stays, sent-rises}
 use Rattle.moved.proofs.Course.{course}
-
--- two tests that hold together
-one-test : (a b : Bool) → (a ≡ true → b ≡ true) → (b ≡ true → a ≡ true) → a ≡ b
-one-test true b f g = sym (f refl)
-one-test false true f g = g refl
-one-test false false f g = refl
 
 -- what is held at the first place, and at a later one
 held-first : (w : Store) (c : ℕ) → heldOf w c 0 ≡ acceptedOf w c - sentOf w c 0
@@ -41,12 +35,6 @@ held-later w c j = refl
 flows-later : (w : Store) (c j : ℕ) → sentOf w c (suc j) ≤ enteredOf w c (suc j) → sentOf w c (suc j) ≤ sentOf w c j
 unfolding enteredOf
 flows-later w c j h = h
-
--- no place holds more than is reserved there
-pub held-most : {w : Store} → Sound w → (c j : ℕ) → c < channelsOf w → j < hopsOf w c → heldOf w c j ≤ reservedOf w c j
-held-most {w} s c j h i =
-    let r = s .row c j h i in
-    rw (r .channel, r .place) at (s .rows (routeOf w c j) (s .channel c h .route .known j i) .holds (r .at) (r .inside))
 
 module _ {w : Store} (s : Sound w) where
   module _ (rooms : (l : ℕ) → l < linksOf w → roomAfter w l ≡ true) where

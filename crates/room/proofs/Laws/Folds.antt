@@ -27,6 +27,12 @@ or-false : (a b : Bool) → b ≡ false → (a || b) ≡ true → a ≡ true
 or-false true b e h = refl
 or-false false b e h = cc
 
+-- two tests that follow from each other
+pub one-test : (a b : Bool) → (a ≡ true → b ≡ true) → (b ≡ true → a ≡ true) → a ≡ b
+one-test true b f g = sym (f refl)
+one-test false true f g = g refl
+one-test false false f g = refl
+
 -- i is the first below n of which f does not hold, or it is n
 pub record First (f : ℕ → Bool) (n i : ℕ) : Type 0 where
   pub before : every f i ≡ true

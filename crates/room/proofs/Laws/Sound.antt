@@ -16,7 +16,7 @@ use Rattle.room.specs.Layout.{Store, Long, storeLength, ring, linksOf, c
 use Rattle.room.specs.Layout.{rowChannelOf, rowPlaceOf, cOf, pOf, dOf, bOf, hopsOf, messagesOf, routeOf, delayOf, sentOf, timeOf}
 use Rattle.room.specs.Folds.{every, sumTo}
 use Rattle.room.specs.Route.{exists, differs, isNew, joins, routePasses}
-use Rattle.room.specs.Amounts.{acceptedOf, enteredOf, heldOf}
+use Rattle.room.specs.Amounts.{reservedOf, acceptedOf, enteredOf, heldOf}
 use Rattle.room.specs.Sound.{longEnough, countsFit, linkFits, channelFits, placeFits, channelSound, inOrder, rowStands, rowDelayOf, rowFollows}
 use Rattle.room.specs.Sound.{rowReservedOf, rowHolds, rowSound, rowsSound, rowIs, listed, allListed, soundOf}
 use Rattle.room.specs.Ranged.{Ranged, Fit}
@@ -330,3 +330,9 @@ module _ (w : Store) where
       let c = and-eq-true-iff (every (linkFits w) (linksOf w)) _ .0 (b .1) in
       let d = and-eq-true-iff (every (channelSound w) (channelsOf w)) _ .0 (c .1) in
       record { long = leb-true storeLength (length w) (a .0); counts = b .0; links = c .0; channels = d .0 }
+
+-- no place of a sound store holds more than is reserved there
+pub held-most : {w : Store} → Sound w → (c j : ℕ) → c < channelsOf w → j < hopsOf w c → heldOf w c j ≤ reservedOf w c j
+held-most {w} s c j h i =
+    let r = s .row c j h i in
+    rw (r .channel, r .place) at (s .rows (routeOf w c j) (s .channel c h .route .known j i) .holds (r .at) (r .inside))
