@@ -69,22 +69,14 @@ module _ {w : Store} {room : ℕ} (s : Still w room) where
   unfolding moved
   still-moved = rw (none-moved w (linksOf w) (s .none))
 
+  still-sound : soundOf (moved w) ≡ true
+  still-sound = rw still-moved (clock-sound w (clockOf w + 1) (s .sound) (omega (arith, s .clock)))
+
   still-turn : slotTurn w room ≡ Ran
   unfolding slotTurn
   still-turn =
-      all-passed Refused (slotChecks w room) Ran (
-        s .sound,
-        (
-          lt-ltb (clockOf w) endSlot (s .clock),
-          (
-            le-leb (5 * linksOf w) room (s .wide),
-            (
-              rw still-moved (clock-sound w (clockOf w + 1) (s .sound) (omega (arith, s .clock))),
-              tt,
-            ),
-          ),
-        ),
-      )
+      all-passed Refused (slotChecks w room) Ran
+      (s .sound, (lt-ltb _ _ (s .clock), (le-leb _ _ (s .wide), (still-sound, tt))))
 
   still-sent : slotSent w room ≡ []
   still-sent = rw still-turn (none-sent w (linksOf w) (s .none))
@@ -128,17 +120,20 @@ module _ (w : Store) (e : soundOf w ≡ true) where
         let s : clockOf w + i + 1 ≡ clockOf w + suc i = omega arith in
         rw (still-store (idle-still i h), clock-is i, s) (set-set w clockAt (clockOf w + i) (clockOf w + suc i))
 
+    -- after m of them the clock alone has moved
     pub run-clock : (m : ℕ) → m ≤ idleOf w → run w room m ≡ withClock w (clockOf w + m)
     unfolding run
     run-clock zero h = sym (clock-stays w 0 refl)
     run-clock (suc m) h = rw (run-clock m (omega arith)) (idle-store m h)
 
+    -- and each of them ran, and sent nothing
     pub run-turn : (i : ℕ) → i < idleOf w → slotTurn (run w room i) room ≡ Ran
     run-turn i h = rw (run-clock i (omega arith)) (still-turn (idle-still i h))
 
     pub run-sent : (i : ℕ) → i < idleOf w → slotSent (run w room i) room ≡ []
     run-sent i h = rw (run-clock i (omega arith)) (still-sent (idle-still i h))
 
+-- so a skip is a run of as many slots, in any store: where it is not sound, of none
 pub skip-runs : (w : Store) (room n : ℕ) → 5 * linksOf w ≤ room → skipStore w n ≡ run w room (skipped w n)
 unfolding run
 skip-runs w room n wide = go (soundOf w) refl

@@ -1,5 +1,5 @@
 -- What a skip leaves, by whether any slot is skipped. Assumes nothing.
-use Prim.Native.Nat.{ℕ, _+_, _≤_, min}
+use Prim.Native.Nat.{ℕ, _+_, _≤_}
 use mathlib.Core.Path.{_≡_, refl, sym, _∙_}
 use mathlib.Core.Bool.{Bool, true, false}
 use native.Mathlib.Omega.{arith}
@@ -7,7 +7,7 @@ use Rattle.kinds.specs.Ranges.{endSlot}
 use Rattle.room.specs.Layout.{Store, withClock, clockOf}
 use Rattle.room.specs.Sound.{soundOf}
 use Rattle.room.proofs.Laws.Sound.{sound-is}
-use Rattle.traffic.specs.Idle.{idleOf, skipped, skipStore}
+use Rattle.traffic.specs.Idle.{skipped, skipStore}
 use Rattle.wait.proofs.Clock.{clock-stays}
 use Rattle.wait.proofs.Least.{idle-none, idle-most}
 
@@ -25,13 +25,10 @@ module _ (w : Store) (n : ℕ) where
       go false e = rw (e, skipStore)
 
   -- as the code works it out
-  module _ {most slots : ℕ} (a : most ≡ idleOf w) (b : slots ≡ min n most) where
-    pub skips : slots ≡ skipped w n
-    skips = rw a at b
-
+  module _ {slots : ℕ} (s : slots ≡ skipped w n) where
     pub skips-none : slots ≡ 0 → (0 ≡ skipped w n) × (w ≡ skipStore w n)
     skips-none z =
-        let e : skipped w n ≡ 0 = sym skips ∙ z in
+        let e : skipped w n ≡ 0 = sym s ∙ z in
         (sym e, sym (skip-none e))
 
     -- slots are skipped only in a sound store, and not past the end slot
@@ -48,4 +45,4 @@ module _ (w : Store) (n : ℕ) where
         omega (arith, idle-most w e, sound-is w e .counts .clock-most)
 
     pub skips-some : (slots ≡ 0 → ⊥) → {clock : ℕ} → clock ≡ clockOf w → withClock w (clock + slots) ≡ skipStore w n
-    skips-some z s = rw (s, skips) (sym (skip-sound (some-sound z)))
+    skips-some z e = rw (e, s) (sym (skip-sound (some-sound z)))
