@@ -8,12 +8,12 @@ use lib.Seq.{set-getD}
 use Rattle.kinds.specs.Ranges.{endSlot}
 use Rattle.room.specs.Layout.{Store, Long, ring, numberAt, withClock, clockAt, linksAt, horizonAt, rowsAt, rowChannelAt}
 use Rattle.room.specs.Layout.{rowPlaceAt, messagesAt, delayAt, sentAt, timeAt, endAt, clockOf, linksOf, channelsOf, horizonOf}
-use Rattle.room.specs.Layout.{rowsOf, rowChannelOf, rowPlaceOf, hopsOf, messagesOf, delayOf, sentOf, timeOf, endOf}
-use Rattle.room.specs.Amounts.{reservedOf, enteredOf, heldOf}
+use Rattle.room.specs.Layout.{rowsOf, rowChannelOf, rowPlaceOf, messagesOf, delayOf, sentOf, timeOf, endOf}
+use Rattle.room.specs.Amounts.{enteredOf}
 use Rattle.room.specs.Sound.{soundOf}
 use Rattle.room.proofs.Laws.Folds.{sum-same}
 use Rattle.room.proofs.Laws.Layout.{written, beside, as-long}
-use Rattle.room.proofs.Laws.Sound.{Sound, sound-is, is-sound}
+use Rattle.room.proofs.Laws.Sound.{Sound, sound-is, is-sound, held-most}
 use Rattle.traffic.specs.Head.{messageWith, messageOf, logicalOf, isHeld}
 use Rattle.traffic.specs.Pick.{rowHeld, rowLogical}
 use Rattle.alike.proofs.Same.{SameRecord, channel-same, held-same}
@@ -106,12 +106,6 @@ module _ (w : Store) (t : ℕ) where
 
   record-same : (c : ℕ) → SameRecord w (withClock w t) c
   record-same c = record { number = λ at a b. number-same at (λ e. omega arith) }
-
--- no place of a sound store holds more than is reserved there
-held-most : {w : Store} → Sound w → (c j : ℕ) → c < channelsOf w → j < hopsOf w c → heldOf w c j ≤ reservedOf w c j
-held-most {w} s c j h i =
-    let r = s .row c j h i in
-    rw (r .channel, r .place) at (s .rows _ (s .channel c h .route .known j i) .holds (r .at) (r .inside))
 
 pub clock-sound : (w : Store) (t : ℕ) → soundOf w ≡ true → t ≤ endSlot → soundOf (withClock w t) ≡ true
 clock-sound w t e h =
