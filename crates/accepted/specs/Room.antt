@@ -1,4 +1,5 @@
--- The second 17 of an offer, "the call would leave one that is not" sound, as the code looks at it. proofs/ shows that this is the same.
+-- The second 17 of an offer, "the call would leave one that is not" sound, as the code looks at it. proofs/ shows that this is
+-- the same.
 use Prim.Native.Nat.{ℕ, _+_, _-_}
 use mathlib.Core.Bool.{Bool, _&&_}
 use lib.Dec.{leb}
@@ -7,7 +8,8 @@ use Rattle.room.specs.Layout.{Store, ring, messagesOf}
 use Rattle.room.specs.Amounts.{reservedOf, heldOf}
 use Rattle.room.specs.Sound.{inOrder}
 
--- one message more may be counted and kept, which the 24th from it makes room for; and its packets are held within what is reserved
+-- One message more may be counted, and kept: at most 22 are undelivered before it. And its packets are held within what is
+-- reserved.
 abbrev pub hasRoom : Store → (c packets : ℕ) → Bool
 hasRoom w c packets =
     isNumber (messagesOf w c + 1)

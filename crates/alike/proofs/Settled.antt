@@ -1,21 +1,21 @@
--- Two stores of which the second has all that set-up and opens have settled in the first: the network, every link's rows, and each
--- channel's numbers, route and delays. Only the clock, and how far channels are, may differ. Such a store is sound where those
--- are. Assumes nothing.
+-- Two stores of which the second has all that set-up and opens have settled in the first: the network, every link's rows, and
+-- each channel's numbers, route and delays. Only the clock, and how far channels are, may differ. Such a store is sound where
+-- those are. Assumes nothing.
 use Prim.Native.Nat.{ℕ, zero, suc, _+_, _-_, _*_, _≤_, _<_}
 use mathlib.Core.Path.{_≡_}
 use mathlib.Core.Bool.{true}
 use native.Mathlib.Omega.{arith}
 use lib.ListN.{length}
 use Rattle.kinds.specs.Ranges.{mostLinks, mostChannels, mostRows, mostHops, mostNumber, endSlot}
-use Rattle.room.specs.Layout.{Store, ring, numberAt, channelAt, linksAt, channelsAt, clockAt, fromAt, toAt, horizonAt, bufferAt, rowsAt}
-use Rattle.room.specs.Layout.{rowChannelAt, rowPlaceAt, cAt, pAt, dAt, bAt, hopsAt, messagesAt, routeAt, delayAt, sentAt, courseEnd}
-use Rattle.room.specs.Layout.{linksOf, channelsOf, clockOf, fromOf, toOf, horizonOf, bufferOf, rowsOf, rowChannelOf, rowPlaceOf}
+use Rattle.room.specs.Layout.{Store, ring, numberAt, channelAt, linksAt, channelsAt, clockAt, fromAt, toAt, horizonAt, bufferAt}
+use Rattle.room.specs.Layout.{rowsAt, rowChannelAt, rowPlaceAt, cAt, messagesAt, routeAt, delayAt, sentAt, courseEnd}
+use Rattle.room.specs.Layout.{linksOf, channelsOf, clockOf, rowsOf, rowChannelOf, rowPlaceOf}
 use Rattle.room.specs.Layout.{cOf, pOf, dOf, bOf, hopsOf, messagesOf, routeOf, delayOf, sentOf, timeOf}
 use Rattle.room.specs.Folds.{sumTo}
 use Rattle.room.specs.Amounts.{reservedOf, acceptedOf, enteredOf, heldOf}
 use Rattle.room.specs.Sound.{inOrder, rowDelayOf, rowReservedOf}
 use Rattle.room.proofs.Laws.Folds.{sum-mono}
-use Rattle.room.proofs.Laws.Sound.{Counts, LinkIs, ChannelIs, RowIs, Before, RowsAre, RowFor, Sound}
+use Rattle.room.proofs.Laws.Sound.{LinkIs, ChannelIs, RowIs, Before, RowsAre, RowFor, Sound}
 use Rattle.alike.proofs.Same.{SameNetwork, good-same}
 
 -- one frame for every number that offers and slots leave alone
@@ -151,42 +151,47 @@ module _ {w w′ : Store} (s : Settled w w′) where
       same-place k i = row-place-same l (few-links l h) k (inside k i)
 
       module _ (k : ℕ) (i : k < rowsOf w l) where
-        r : RowIs w l k
-        r = sound .rows l h .rows k i
+        old : RowIs w l k
+        old = sound .rows l h .rows k i
 
-        n : rowChannelOf w l k < mostChannels
-        n = few-channels (rowChannelOf w l k) (r .channel)
+        few : rowChannelOf w l k < mostChannels
+        few = few-channels (rowChannelOf w l k) (old .channel)
 
-        m : rowPlaceOf w l k < mostHops
-        m = few-places (rowChannelOf w l k) (r .channel) (rowPlaceOf w l k) (r .place)
+        near : rowPlaceOf w l k < mostHops
+        near = few-places (rowChannelOf w l k) (old .channel) (rowPlaceOf w l k) (old .place)
 
         pub row-kept : RowIs w′ l k
         row-kept = record {
-          channel = rw (same-channel k i, channels-same) (r .channel);
-          place = rw (same-channel k i, same-place k i, hops-kept (rowChannelOf w l k) n) (r .place);
-          here = rw (same-channel k i, same-place k i, route-kept (rowChannelOf w l k) n (rowPlaceOf w l k) m) (r .here);
+          channel = rw (same-channel k i, channels-same) (old .channel);
+          place = rw (same-channel k i, same-place k i, hops-kept (rowChannelOf w l k) few) (old .place);
+          here = rw (same-channel k i, same-place k i, route-kept (rowChannelOf w l k) few (rowPlaceOf w l k) near) (old .here);
         }
 
         pub row-delay-kept : rowDelayOf w′ l k ≡ rowDelayOf w l k
-        row-delay-kept = rw (same-channel k i, same-place k i) (delay-kept (rowChannelOf w l k) n (rowPlaceOf w l k) m)
+        row-delay-kept = rw (same-channel k i, same-place k i) (delay-kept (rowChannelOf w l k) few (rowPlaceOf w l k) near)
 
         pub row-reserved-kept : rowReservedOf w′ l k ≡ rowReservedOf w l k
-        row-reserved-kept = rw (same-channel k i, same-place k i) (reserved-kept (rowChannelOf w l k) (r .channel) (rowPlaceOf w l k) (r .place))
+        row-reserved-kept =
+            rw (same-channel k i, same-place k i) (reserved-kept (rowChannelOf w l k) (old .channel) (rowPlaceOf w l k) (old .place))
 
     -- the store is sound where each channel's course is and no place holds more than is reserved there
     module _ (clock : clockOf w′ ≤ endSlot) (course : (c : ℕ) → c < channelsOf w → CourseIs w′ c)
         (held : (c j : ℕ) → c < channelsOf w → j < hopsOf w c → heldOf w′ c j ≤ reservedOf w c j) where
       rows-kept : (l : ℕ) → l < linksOf w → RowsAre w′ l
       rows-kept l h = record {
-        rows = λ k i. row-kept l h k (old k i);
-        sorted = λ k i. order k (old (suc k) i) (omega (arith, old (suc k) i));
-        holds = λ k i. holds k (old k i);
+        rows = λ k i. row-kept l h k (inside-old k i);
+        sorted = λ k i. order k (inside-old (suc k) i) (omega (arith, inside-old (suc k) i));
+        holds = λ k i. holds k (inside-old k i);
         fits = rw (rows-same l (few-links l h), network-same .buffer l (few-links l h))
-            (omega (arith, sound .rows l h .fits, sum-mono (rowReservedOf w′ l) (rowReservedOf w l) (rowsOf w l) (λ k i. omega (arith, row-reserved-kept l h k i))));
+            (omega (arith, sound .rows l h .fits, no-more));
       }
         where
-          old : (k : ℕ) → k < rowsOf w′ l → k < rowsOf w l
-          old k i = rw (rows-same l (few-links l h)) at i
+          inside-old : (k : ℕ) → k < rowsOf w′ l → k < rowsOf w l
+          inside-old k i = rw (rows-same l (few-links l h)) at i
+
+          no-more : sumTo (rowReservedOf w′ l) (rowsOf w l) ≤ sumTo (rowReservedOf w l) (rowsOf w l)
+          no-more =
+              sum-mono (rowReservedOf w′ l) (rowReservedOf w l) (rowsOf w l) (λ k i. omega (arith, row-reserved-kept l h k i))
 
           order : (k : ℕ) → suc k < rowsOf w l → k < rowsOf w l
               → Before (rowDelayOf w′ l k) (rowChannelOf w′ l k) (rowDelayOf w′ l (suc k)) (rowChannelOf w′ l (suc k))
@@ -197,7 +202,7 @@ module _ {w w′ : Store} (s : Settled w w′) where
           holds : (k : ℕ) → k < rowsOf w l → heldOf w′ (rowChannelOf w′ l k) (rowPlaceOf w′ l k) ≤ rowReservedOf w′ l k
           holds k i =
               rw (row-reserved-kept l h k i, same-channel l h k i, same-place l h k i)
-              (held (rowChannelOf w l k) (rowPlaceOf w l k) (r l h k i .channel) (r l h k i .place))
+              (held (rowChannelOf w l k) (rowPlaceOf w l k) (old l h k i .channel) (old l h k i .place))
 
       pub settled-sound : Sound w′
       settled-sound = record {
@@ -218,7 +223,8 @@ module _ {w w′ : Store} (s : Settled w w′) where
           link l h =
               let a : l < mostLinks = few-links l h in
               record {
-                good = rw (network-same .from l a, network-same .to l a, network-same .horizon l a, network-same .buffer l a) (sound .link l h .good);
+                good = rw (network-same .from l a, network-same .to l a, network-same .horizon l a, network-same .buffer l a)
+                    (sound .link l h .good);
                 rows-most = rw (rows-same l a) (sound .link l h .rows-most);
               }
 

@@ -1,5 +1,5 @@
--- The second 17 of a slot, "the call would leave one that is not" sound, as the code looks at it: a packet that is picked has room at
--- the next place of its route. proofs/ shows that this is the same.
+-- The second 17 of a slot, "the call would leave one that is not" sound, as the code looks at it: a packet that is picked has
+-- room at the next place of its route. proofs/ shows that this is the same.
 use Prim.Native.Nat.{ℕ, zero, suc, _+_}
 use mathlib.Core.Bool.{Bool, true, false, _||_}
 use lib.Dec.{eqb, leb, ltb}

@@ -1,5 +1,5 @@
--- Document 01, "A slot": the packet of a channel that goes next at a place of its route. "Within a channel: message order, then packet
--- order": packets are numbered over all messages, and the next one is number `sentOf`.
+-- Document 01, "A slot": the packet of a channel that goes next at a place of its route. "Within a channel: message order, then
+-- packet order": packets are numbered over all messages, and the next one is number `sentOf`.
 use Prim.Native.Nat.{ℕ, zero, suc, _+_, _-_}
 use mathlib.Core.Bool.{Bool, true, false}
 use lib.Dec.{leb, ltb}

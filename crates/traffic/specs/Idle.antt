@@ -16,8 +16,8 @@ rests w l = eqb (pickOf w l) 0
 abbrev pub quiet : Store → (i : ℕ) → Bool
 quiet w i = every (rests (withClock w (clockOf w + i))) (linksOf w)
 
--- how many slots from now are quiet, one after the other: "all of them up to the end slot if nothing is held". None where the store is
--- not sound, since no slot then runs.
+-- how many slots from now are quiet, one after the other: all of them up to the end slot if nothing is held. None where the
+-- store is not sound, since no slot then runs.
 unfoldable pub idleOf : Store → ℕ
 idleOf w = elim (soundOf w) [ true ↦ firstNot (quiet w) (endSlot - clockOf w) | false ↦ 0 ]
 

@@ -1,5 +1,6 @@
--- Document 01, "A slot": "Each link picks among the packets it held when the slot began, offers of that slot among them". Every row of
--- the link stands for the packet of its channel that goes next. A pick is the position of a row, counted from 1, or 0 for none.
+-- Document 01, "A slot": "Each link picks among the packets it held when the slot began, offers of that slot among them". Every
+-- row of the link stands for the packet of its channel that goes next. A pick is the position of a row, counted from 1, or 0 for
+-- none.
 use Prim.Native.Nat.{ℕ, zero, suc, _+_}
 use mathlib.Core.Bool.{Bool, true, false, _&&_, _||_, not}
 use lib.Dec.{eqb, leb, ltb}

@@ -41,8 +41,8 @@ sendsTo w (suc l) = sendsTo w l ++ sendFrom w l (pickOf w l)
 abbrev pub slotSends : Store → List Send
 slotSends w = sendsTo w (linksOf w)
 
--- "All links pick, then all picked packets move on": the picks are those of w. A packet that has moved on from place j is one more
--- sent there, and so stands at the next place.
+-- "All links pick, then all picked packets move on": the picks are those of w. A packet that has moved on from place j is one
+-- more sent there, and so stands at the next place.
 abbrev pub moveFrom : Store → (l position : ℕ) → (later : Store) → Store
 moveFrom w l zero later = later
 moveFrom w l (suc k) later =
@@ -56,8 +56,8 @@ movedTo w (suc l) = moveFrom w l (pickOf w l) (movedTo w l)
 unfoldable pub moved : Store → Store
 moved w = withClock (movedTo w (linksOf w)) (clockOf w + 1)
 
--- "Checks run in this order: .. slot 17, 14, 15", the last where the "output has room for fewer sends than there are links"; 17 once
--- more "after all other checks". `room` is the length of the output.
+-- "Checks run in this order: .. slot 17, 14, 15", the last where the "output has room for fewer sends than there are links"; 17
+-- once more "after all other checks". `room` is the length of the output.
 abbrev pub slotChecks : Store → (room : ℕ) → List Check
 slotChecks w room =
     check 17 (soundOf w)
@@ -87,7 +87,7 @@ abbrev pub storeOn : Turn → Store → Store
 storeOn Ran w = moved w
 storeOn (Refused number place) w = w
 
--- The slot: its number and place, its sends, the later store, and the later output, of which "the rest of that buffer is unchanged".
+-- The slot: its number and place, its sends, the later store, and the later output, of which "the rest .. is unchanged".
 abbrev pub slotNumber : Store → (room : ℕ) → ℕ
 slotNumber w room = numberOn (slotTurn w room)
 

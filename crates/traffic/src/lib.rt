@@ -1,5 +1,5 @@
-// What an offer and a slot answer: document 01, "Offering" and "A slot". specs/ says which call gives which answer and leaves which
-// store and output; the crates above work it out.
+// What an offer and a slot answer: document 01, "Offering" and "A slot". specs/ says which call gives which answer and leaves
+// which store and output; the crates above work it out.
 
 // The message's number, from 0, and its logical time; or the refusal's number and place.
 pub enum Offered {

@@ -1,14 +1,13 @@
 -- The row that goes before the others, among those that may go. Assumes nothing.
-use Prim.Native.Nat.{ℕ, zero, suc, _+_, _≤_, _<_}
+use Prim.Native.Nat.{ℕ, zero, suc, _≤_, _<_}
 use mathlib.Core.Path.{_≡_, refl}
 use mathlib.Core.Logic.{_⊎_, inl, inr}
 use mathlib.Core.Bool.{Bool, true, false, _&&_, _||_, and-eq-true-iff}
-use native.Mathlib.Numerals.{add-one}
 use native.Mathlib.Omega.{arith}
 use lib.Dec.{eqb, ltb}
 use borrow.Author.Tests.{ltb-true, ltb-false, eqb-true, eqb-false}
 use Rattle.room.proofs.Laws.Folds.{below}
-use Rattle.traffic.specs.Pick.{goesBefore, better, bestOf}
+use Rattle.traffic.specs.Pick.{goesBefore, bestOf}
 
 module _ (key channel : ℕ → ℕ) where
   -- row i is not behind row k: its key is smaller, or it is the same and the channel's number is no greater
@@ -65,7 +64,8 @@ module _ (may : ℕ → Bool) (key channel : ℕ → ℕ) where
   best-pass n (suc i) e x = record {
     inside = omega (arith, x .inside);
     may-go = x .may-go;
-    leads = λ k h m. below k n h (λ l. x .leads k l m) (λ s. absurd (let z : _≡_ {A = ℕ} 0 1 = cc (s, e, m) in omega arith));
+    leads = λ k h m.
+        below k n h (λ l. x .leads k l m) (λ s. absurd (let z : _≡_ {A = ℕ} 0 1 = cc (s, e, m) in omega arith));
   }
 
   pub best-first : (n : ℕ) → may n ≡ true → Best n 0 → Best (suc n) (suc n)

@@ -1,11 +1,12 @@
--- The message that a packet is of, in a sound channel: it is one of those kept, and the packet lies between its ends. Assumes nothing.
+-- The message that a packet is of, in a sound channel: it is one of those kept, and the packet lies between its ends. Assumes
+-- nothing.
 use Prim.Native.Nat.{ℕ, zero, suc, _+_, _-_, _≤_, _<_}
 use mathlib.Core.Path.{_≡_, refl}
-use mathlib.Core.Bool.{Bool, true, false, _&&_, _||_, and-eq-true-iff}
+use mathlib.Core.Bool.{Bool, true, false, _&&_, and-eq-true-iff}
 use native.Mathlib.Numerals.{add-one, unary-clauses}
 use native.Mathlib.Omega.{arith}
 use lib.Dec.{leb, ltb}
-use borrow.Author.Tests.{leb-true, ltb-true, lt-leb, leb-false}
+use borrow.Author.Tests.{leb-true, lt-leb, leb-false}
 use Rattle.kinds.specs.Ranges.{mostNumber}
 use Rattle.room.specs.Layout.{Store, ring, cOf, pOf, hopsOf, messagesOf, sentOf, timeOf, endOf}
 use Rattle.room.specs.Amounts.{acceptedOf, deliveredOf, enteredOf}
@@ -14,7 +15,8 @@ use Rattle.room.proofs.Laws.Folds.{below}
 use Rattle.room.proofs.Laws.Sound.{ChannelIs}
 use Rattle.traffic.specs.Head.{messageWith, messageOf}
 
--- Packet x is of message r, which is one of the `kept` last ones up to message n, and no later than `most`. It has 1 to C packets.
+-- Packet x is of message r, which is one of the `kept` last ones up to message n, and no later than `most`. It has at most C
+-- packets.
 pub record MessageIs (w : Store) (c x n kept most r : ℕ) : Type 0 where
   pub least : 1 ≤ r
   pub last : r ≤ n

@@ -2,13 +2,13 @@
 use Prim.Native.Nat.{ℕ, zero, suc, _+_, _≤_, _<_}
 use mathlib.Core.Path.{_≡_, refl}
 use mathlib.Core.Logic.{_⊎_, inl, inr}
-use mathlib.Core.Bool.{Bool, true, false, _&&_, not, and-eq-true-iff}
+use mathlib.Core.Bool.{Bool, true, false, and-eq-true-iff}
 use native.Mathlib.Omega.{arith}
 use lib.Dec.{leb}
 use borrow.Author.Tests.{leb-true, leb-false, le-leb, lt-leb, not-true}
-use Rattle.room.specs.Layout.{Store, clockOf, horizonOf, rowsOf, rowChannelOf, rowPlaceOf}
-use Rattle.traffic.specs.Head.{isCurrent}
-use Rattle.traffic.specs.Pick.{rowHeld, rowCurrent, rowEarly, rowLogical, rowDeadline, dueOf, soonOf, withinHorizon, pickFrom, pickOf}
+use Rattle.room.specs.Layout.{Store, clockOf, horizonOf, rowsOf, rowChannelOf}
+use Rattle.traffic.specs.Pick.{rowHeld, rowCurrent, rowEarly, rowLogical, rowDeadline, dueOf, soonOf}
+use Rattle.traffic.specs.Pick.{withinHorizon, pickFrom, pickOf}
 use Rattle.traffic.proofs.Laws.Best.{Leads, Wins, Best, best-is}
 
 -- "the current packet with the earliest deadline, ties to the lower channel number": no current packet that the link holds has an
