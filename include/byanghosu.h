@@ -1,8 +1,9 @@
 /* Byanghosu: what the router's control board calls. Numbers and lent buffers only.
  *
- * Every call but `byanghosu_sound` returns the refusal number of document 01, or 0 where it ran. A refused call writes no
- * output but `place`, the place that the refusal names (0 where none is named), and an open's numbers per link, all 0; a
- * call that ran sets `place` to 0. No pointer may be null, and no two lent buffers of one call may overlap. */
+ * `byanghosu_sound`, `byanghosu_idle` and `byanghosu_skip` return what is asked for. Every other call returns the refusal
+ * number of document 01, or 0 where it ran. A refused call writes no output but `place`, the place that the refusal names (0
+ * where none is named), an open's numbers per link, all 0, and a slot's number of sends, 0; a call that ran sets `place` to 0.
+ * No pointer may be null, and no two lent buffers of one call may overlap. */
 #ifndef BYANGHOSU_H
 #define BYANGHOSU_H
 
@@ -48,6 +49,41 @@ bool byanghosu_sound(const uint64_t *store, size_t length);
 uint64_t byanghosu_open(uint64_t *store, size_t length, uint64_t c, uint64_t p, uint64_t d, uint64_t b,
                         const uint64_t *route, size_t hops, uint64_t *channel, uint64_t responses[8], uint64_t delays[8],
                         uint64_t reserved[8], uint64_t *place);
+
+/* Offering a message; all its packets are offered at once.
+ *
+ * store    what set-up and the calls since have left; `length` numbers. A message that is accepted stands in it from now on
+ * channel  the channel that it goes over
+ * packets  how many packets it has, 1 to the channel's C
+ * message  its number; a channel's messages are numbered from 0 as accepted
+ * logical  its logical time on the first link, in slots: the present slot, or p after the message before it if that is later
+ *
+ * Returns, in the order in which they are looked at: 17 for a store that is not sound, 14 for a clock at the end slot, 11 where
+ * there is no such channel, 12 for 0 packets or more than C, 13 for a logical time more than (B - 1) * p slots from now, and 17
+ * where the store would not be sound with the message in it, which set-up and the calls since never lead to. A refused call
+ * leaves the store as it was; `place` is always 0. */
+uint64_t byanghosu_offer(uint64_t *store, size_t length, uint64_t channel, uint64_t packets, uint64_t *message,
+                         uint64_t *logical, uint64_t *place);
+
+/* Running a slot: each link sends one packet, or none, and the clock rises by one.
+ *
+ * store    what set-up and the calls since have left; `length` numbers
+ * out      takes the sends at its front, in the order of the links, five numbers each: slot, link, channel, message and
+ *          packet, the last two from 0. It has `room` numbers, at least five a link. The rest of it is left as it was
+ * sends    how many sends there were
+ *
+ * Returns, in the order in which they are looked at: 17 for a store that is not sound, 14 for a clock at the end slot, 15 for an
+ * `out` with room for fewer sends than there are links, and 17 where the store would not be sound after the slot, which set-up
+ * and the calls since never lead to. A refused call leaves the store and `out` as they were; `place` is always 0. */
+uint64_t byanghosu_slot(uint64_t *store, size_t length, uint64_t *out, size_t room, uint64_t *sends, uint64_t *place);
+
+/* Long waits: how many slots from now no link can send in, if nothing is offered until then. All that are left up to the end slot
+ * if no packet is held, and 0 for a store that is not sound. Nothing is written. */
+uint64_t byanghosu_idle(const uint64_t *store, size_t length);
+
+/* Runs slots in which no link can send, all at once: the clock rises by n, or by what `byanghosu_idle` says if that is less.
+ * Returns by how much. A store that is not sound is left as it was, and 0 returned. */
+uint64_t byanghosu_skip(uint64_t *store, size_t length, uint64_t n);
 
 /* The response-time calculation by itself.
  *

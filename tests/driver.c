@@ -13,16 +13,25 @@
  * sound LENGTH                  ->   1 if the first LENGTH numbers are a sound store, 0 if not
  * open LENGTH C P D B COUNT ROUTE..
  *                               ->   NUMBER PLACE CHANNEL of an open in the first LENGTH numbers, then the 8 responses, the 8
- *                                    delays and the 8 reserved; the place 333, the channel 444, the others 555 before the call */
+ *                                    delays and the 8 reserved; the place 333, the channel 444, the others 555 before the call
+ * offer LENGTH CHANNEL PACKETS  ->   NUMBER PLACE MESSAGE LOGICAL of an offer in the first LENGTH numbers; the place 333, the
+ *                                    message 444, the logical time 555 before the call
+ * slot LENGTH ROOM              ->   NUMBER PLACE SENDS CHANGED of a slot in the first LENGTH numbers with an output of ROOM
+ *                                    numbers, then five numbers a send; the place 333, the sends 444 before the call. CHANGED
+ *                                    is how many numbers past the sends, in the output and beyond it, are not what they were
+ * run LENGTH ROOM COUNT         ->   NUMBER PLACE SLOTS SENDS CHANGED SUM of so many slots, or up to the first that is refused:
+ *                                    its number and place, how many ran, the sends of all, and a sum over them in turn
+ * idle LENGTH                   ->   how many slots no link can send in
+ * skip LENGTH COUNT             ->   how many of them were skipped */
 #include "../include/byanghosu.h"
 #include <inttypes.h>
 #include <stdio.h>
 #include <stdlib.h>
 #include <string.h>
 
-enum { WORD = 32, MOST = 4096, HELD = BYANGHOSU_STORE + 464 };
+enum { WORD = 32, MOST = 4096, HELD = BYANGHOSU_STORE + 464, SEND = 5, BEYOND = 16, UNWRITTEN = 666 };
 
-static uint64_t store[HELD];
+static uint64_t store[HELD], out[MOST + BEYOND];
 
 /* The next word, cut to what `word` holds; of no letters at the end. By hand, as scanf takes several times as long. */
 static void next(char word[WORD]) {
@@ -78,10 +87,13 @@ static void put(void) {
 
 static void get(void) { printf("%" PRIu64 "\n", store[number_to(HELD - 1)]); }
 
+/* A sum with one number more. */
+static uint64_t with(uint64_t all, uint64_t n) { return (all ^ n) * 1099511628211u; }
+
 static void sum(void) {
     size_t count = number_to(HELD);
     uint64_t all = 0;
-    for (size_t i = 0; i < count; i++) all = (all ^ store[i]) * 1099511628211u;
+    for (size_t i = 0; i < count; i++) all = with(all, store[i]);
     printf("%" PRIu64 "\n", all);
 }
 
@@ -111,10 +123,65 @@ static void open_channel(void) {
     printf("\n");
 }
 
+static void offer(void) {
+    size_t length = number_to(HELD);
+    uint64_t channel = number(), packets = number(), message = 444, logical = 555, place = 333;
+    uint64_t refusal = byanghosu_offer(store, length, channel, packets, &message, &logical, &place);
+    printf("%" PRIu64 " %" PRIu64 " %" PRIu64 " %" PRIu64 "\n", refusal, place, message, logical);
+}
+
+/* What a slot answered; `numbers` are those of its sends that the output has room for. */
+struct turn {
+    uint64_t refusal, place, sends, changed;
+    size_t numbers;
+};
+
+static struct turn turn(size_t length, size_t room) {
+    struct turn t = {0, 333, 444, 0, 0};
+    for (size_t i = 0; i < room + BEYOND; i++) out[i] = UNWRITTEN;
+    t.refusal = byanghosu_slot(store, length, out, room, &t.sends, &t.place);
+    t.numbers = t.sends < room / SEND ? SEND * t.sends : room / SEND * SEND;
+    for (size_t i = t.numbers; i < room + BEYOND; i++) t.changed += out[i] != UNWRITTEN;
+    return t;
+}
+
+static void slot(void) {
+    size_t length = number_to(HELD), room = number_to(MOST);
+    struct turn t = turn(length, room);
+    printf("%" PRIu64 " %" PRIu64 " %" PRIu64 " %" PRIu64, t.refusal, t.place, t.sends, t.changed);
+    for (size_t i = 0; i < t.numbers; i++) printf(" %" PRIu64, out[i]);
+    printf("\n");
+}
+
+static void run(void) {
+    size_t length = number_to(HELD), room = number_to(MOST);
+    uint64_t count = number(), slots = 0, sends = 0, changed = 0, all = 0;
+    struct turn t = {0};
+    while (slots < count) {
+        t = turn(length, room);
+        sends += t.sends;
+        changed += t.changed;
+        if (t.refusal) break;
+        slots++;
+        all = with(with(all, t.sends), t.place);
+        for (size_t i = 0; i < t.numbers; i++) all = with(all, out[i]);
+    }
+    printf("%" PRIu64 " %" PRIu64 " %" PRIu64 " %" PRIu64 " %" PRIu64 " %" PRIu64 "\n", t.refusal, t.place, slots, sends,
+           changed, all);
+}
+
+static void idle(void) { printf("%" PRIu64 "\n", byanghosu_idle(store, number_to(HELD))); }
+
+static void skip(void) {
+    size_t length = number_to(HELD);
+    printf("%" PRIu64 "\n", byanghosu_skip(store, length, number()));
+}
+
 int main(void) {
     static const struct { const char *word; void (*answer)(void); } questions[] = {
         {"response", response}, {"fill", fill}, {"put", put}, {"get", get}, {"sum", sum},
-        {"setup", set_up}, {"sound", sound}, {"open", open_channel},
+        {"setup", set_up}, {"sound", sound}, {"open", open_channel}, {"offer", offer}, {"slot", slot}, {"run", run},
+        {"idle", idle}, {"skip", skip},
     };
     char word[WORD];
     for (next(word); *word; next(word)) {

@@ -11,6 +11,7 @@
 // answer, and every place of a refusal, has to come up a good many times.
 mod changes;
 mod driver;
+mod opened;
 mod opening;
 mod questions;
 mod requests;
@@ -18,40 +19,13 @@ mod room;
 mod rooms;
 mod seen;
 use driver::{fail, Random};
-use opening::{open, Answer, Part, Request};
-use questions::{spaced, Questions, HELD, LENGTHS};
-use requests::Style;
-use room::{broken, channel_at, link_at, Link, Room, END_SLOT, RULES, STORE};
+use opened::{ask_open, printed, RECORDS};
+use opening::Request;
+use questions::{Questions, HELD, LENGTHS};
+use requests::{network, Style};
+use room::{channel_at, link_at, Room, END_SLOT, RULES, STORE};
 use rooms::{flawed_store, store_with, Maker, Size};
 use seen::Seen;
-
-// The numbers of all records; those beyond are spare.
-const RECORDS: usize = 7_776;
-
-// As tests/driver.c writes it.
-fn told(answer: &Answer) -> String {
-    let mut numbers = [0; 24];
-    match answer {
-        Err((number, place)) => format!("{number} {place} 444{}", spaced(&numbers)),
-        Ok((channel, parts)) => {
-            for (j, part) in parts.iter().enumerate() {
-                (numbers[j], numbers[8 + j], numbers[16 + j]) = (part.response, part.delay, part.reserved);
-            }
-            format!("0 0 {channel}{}", spaced(&numbers))
-        }
-    }
-}
-
-// As document 01's program prints it.
-fn printed(answer: &Answer) -> String {
-    match answer {
-        Err((number, place)) => format!("refused {number} {place}"),
-        Ok((channel, parts)) => {
-            let part = |part: &Part| format!(" {}/{}/{}", part.response, part.delay, part.reserved);
-            format!("channel {channel}{}", parts.iter().map(part).collect::<String>())
-        }
-    }
-}
 
 struct Opens<'a> {
     random: &'a Random,
@@ -67,15 +41,8 @@ impl<'a> Opens<'a> {
     // An open, here and by the library; gives back the line that document 01's program prints.
     fn ask(&mut self, length: usize, request: &Request, what: &str) -> String {
         let before = Room::read(&self.questions.store);
-        let answer = open(&mut self.questions.store[..length], request);
-        if answer.is_ok() && !broken(&self.questions.store[..length]).0.is_empty() {
-            fail(format!("tests/opening.rs leaves a store that is not sound, after {}", told(&answer)));
-        }
+        let answer = ask_open(&mut self.questions, length, request, what);
         self.seen.answer(&before, request, &answer);
-        let Request { c, p, d, b, route } = request;
-        let question = format!("open {length} {c} {p} {d} {b} {}{}", route.len(), spaced(route));
-        self.questions.ask(question, told(&answer), what.to_string());
-        self.questions.ask_sum(RECORDS, "the records after an open");
         printed(&answer)
     }
 
@@ -178,21 +145,10 @@ impl<'a> Opens<'a> {
         }
     }
 
-    // Four numbers a link. Most buffers are alike.
-    fn network(&self, size: Size) -> Vec<u64> {
-        let random = self.random;
-        let buffer = random.pick(&[256, 256, 1 + random.to(255)]);
-        let numbers = |link: &Link| {
-            let own = if random.chance(8) { 1 + random.to(255) } else { buffer };
-            [link.from, link.to, link.horizon, own]
-        };
-        Maker::new(random, size, "").make_links().iter().flat_map(numbers).collect()
-    }
-
     // From a set-up on, until little more fits.
     fn grown_room(&mut self, size: Size) {
         self.questions.fill(self.random.next());
-        let links = self.network(size);
+        let links = network(self.random, size);
         self.questions.ask_set_up(self.random.pick(&LENGTHS), &links);
         let style = Style::new(self.random, links.len() / 4);
         let mut in_vain = 0;

@@ -1,7 +1,18 @@
 // What opens ask for in a room, as a rule close to what can be had: D about the sum of the responses, p about the largest.
 use crate::driver::Random;
 use crate::opening::Request;
-use crate::room::Room;
+use crate::room::{Link, Room};
+use crate::rooms::{Maker, Size};
+
+// The links of a network, four numbers each. Most buffers are alike.
+pub fn network(random: &Random, size: Size) -> Vec<u64> {
+    let buffer = random.pick(&[256, 256, 1 + random.to(255)]);
+    let numbers = |link: &Link| {
+        let own = if random.chance(8) { 1 + random.to(255) } else { buffer };
+        [link.from, link.to, link.horizon, own]
+    };
+    Maker::new(random, size, "").make_links().iter().flat_map(numbers).collect()
+}
 
 // What the channels of a room are like.
 pub struct Style {
@@ -32,6 +43,12 @@ impl Style {
         let hops = random.pick(if heavy { &[1, 1, 2] } else { &[2, 8, 8, 8] });
         let favourite = random.chance(3).then(|| random.to(links as u64 - 1));
         Style { c, p, b, hops, heavy, tight: random.chance(2), favourite }
+    }
+
+    // Short messages that come often and have time, so that much fits.
+    pub fn dense(random: &Random) -> Style {
+        let (c, p, b) = random.pick(&[(1, (3, 30), 2), (4, (8, 80), 3), (2, (2, 12), 1), (12, (30, 90), 2)]);
+        Style { c, p, b, hops: random.pick(&[1, 2, 4, 8]), heavy: false, tight: false, favourite: None }
     }
 
     // Links that join, as many as are wished for or as there are; over the favourite one, if a dozen tries find such a route.
