@@ -58,6 +58,7 @@ impl<'a> Live<'a> {
     }
 
     fn open_some(&mut self, style: &Style) {
+        self.write();
         let room = Room::read(&self.asked.questions.store).unwrap();
         let request = style.request(self.random, &room);
         drop(self.open(&request));
@@ -104,12 +105,11 @@ impl<'a> Live<'a> {
         answer
     }
 
-    // So many slots, or up to the first that is refused. Only a sum over their sends is compared.
-    pub fn run(&mut self, count: u64) {
+    // So many slots, or up to the first that is refused; how many sends. Only a sum over them is compared.
+    fn run(&mut self, count: u64) -> usize {
         let (length, room) = (self.length(), self.random.pick(&[5 * self.network.links(), 80, 85]));
         if self.each {
-            let _ = (0..count).try_for_each(|_| self.slot_in(length, room).map(|_| ()));
-            return;
+            return (0..count).map_while(|_| self.slot_in(length, room).ok()).map(|sends| sends.len()).sum();
         }
         let (mut slots, mut sent, mut all, mut number) = (0, 0, 0, 0);
         while slots < count && number == 0 {
@@ -128,9 +128,10 @@ impl<'a> Live<'a> {
         let why = format!("up to slot {}; EACH=1 shows which one", self.network.slot);
         let answer = format!("{number} 0 {slots} {sent} 0 {all}");
         self.asked.questions.ask(format!("run {length} {room} {count}"), answer, why);
+        sent
     }
 
-    pub fn idle(&mut self) -> u64 {
+    fn idle(&mut self) -> u64 {
         let slots = self.network.idle();
         self.asked.tally.kind(slots > 0, "long waits");
         let question = format!("idle {}", self.length());
@@ -148,7 +149,7 @@ impl<'a> Live<'a> {
     }
 
     // A long wait slot by slot, in which nothing is sent; then the same at once; then, as a rule, a slot that sends.
-    pub fn wait(&mut self) {
+    fn wait(&mut self) {
         let (slots, random) = (self.idle(), self.random);
         if slots > 400 {
             self.skip(random.pick(&[slots - 1 - random.to(9), slots, slots + 1, random.to(slots), u64::MAX]));
@@ -156,7 +157,9 @@ impl<'a> Live<'a> {
             return;
         }
         let clock = self.network.slot;
-        self.run(slots);
+        if self.run(slots) > 0 {
+            fail("something is sent in a long wait".to_string());
+        }
         self.settle();
         self.network.slot = clock;
         self.asked.questions.put(2, &[clock]);
@@ -200,9 +203,15 @@ impl<'a> Live<'a> {
         let (channel, packets) = match random.to(3) {
             0 => (random.pick(&[channels, channels + 1, random.above(channels), u64::MAX]), random.to(2)),
             1 => (known, 0),
-            _ => (known, random.above(most)),
+            _ => (known, random.pick(&[random.above(most), u64::MAX])),
         };
         let _ = self.offer(channel, packets);
+    }
+
+    fn damaged(&mut self) {
+        self.write();
+        let room = Room::read(&self.asked.questions.store).unwrap();
+        self.asked.damaged(&room);
     }
 
     // The four calls in a store that is too short.
@@ -228,6 +237,7 @@ impl<'a> Live<'a> {
             6 if random.chance(8) => self.short_store(),
             7..=10 => drop(self.slot(80)),
             11..=14 => self.wait(),
+            15 => self.damaged(),
             _ => {}
         }
         self.offers(loads);

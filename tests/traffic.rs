@@ -36,7 +36,7 @@ use rooms::Size;
 use std::thread::JoinHandle;
 
 // How many slots `random` runs.
-const SLOTS: u64 = 300_000;
+const SLOTS: u64 = 600_000;
 
 fn setting(name: &str, usual: u64) -> u64 {
     std::env::var(name).ok().map_or(usual, |n| n.parse().unwrap_or_else(|_| fail(format!("{name} is not a number"))))

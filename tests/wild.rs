@@ -3,7 +3,7 @@
 use crate::asked::Asked;
 use crate::opened::RECORDS;
 use crate::questions::{HELD, LENGTHS};
-use crate::room::{broken, Channel, Link, Room, Row, END_SLOT, LATEST, STORE};
+use crate::room::{broken, channel_at, Channel, Link, Room, Row, END_SLOT, LATEST, STORE};
 use crate::rooms::{flawed_store, store_with, Size};
 
 impl<'a> Asked<'a> {
@@ -68,7 +68,7 @@ impl<'a> Asked<'a> {
         match random.to(9) {
             0..=3 => {
                 let channel = random.pick(&[random.to(channels), random.place_of(channels as usize) as u64]);
-                let most = self.questions.store[96 * (17 + channel.min(63) as usize)];
+                let most = self.questions.store[channel_at(channel.min(63) as usize)];
                 let packets = random.pick(&[1, 1, most, random.to(most.saturating_add(1).min(300))]);
                 self.offer(length, channel, packets, why);
             }
@@ -85,24 +85,27 @@ impl<'a> Asked<'a> {
         }
     }
 
-    // A room, a few calls, changes of it with a call in each, a few calls more.
+    // A call with a few numbers of the store changed; then they are what they were.
+    pub fn damaged(&mut self, room: &Room) {
+        let records = self.questions.store[..RECORDS].to_vec();
+        let change = self.random.change(room, &self.questions.store);
+        let old: Vec<(usize, u64)> = change.iter().map(|(at, _)| (*at, self.questions.store[*at])).collect();
+        change.iter().for_each(|(at, value)| self.questions.put(*at, &[*value]));
+        let sound = broken(&self.questions.store[..STORE]).0.is_empty();
+        self.tally.kind(true, if sound { "damages still sound" } else { "damages not sound" });
+        self.any_call(STORE, &format!("with a store changed at {change:?} from {old:?}"));
+        old.iter().rev().for_each(|(at, value)| self.questions.put(*at, &[*value]));
+        self.questions.become_store(&records);
+    }
+
+    // A room with a few calls, and a few more with numbers changed.
     pub fn wild_room(&mut self, size: Size, calls: u64) {
-        let random = self.random;
         let room = self.made_room(size);
         for _ in 0..calls {
-            self.any_call(random.pick(&LENGTHS), "in a made room");
+            let length = self.random.pick(&LENGTHS);
+            self.any_call(length, "in a made room");
         }
-        for _ in 0..calls {
-            let records = self.questions.store[..RECORDS].to_vec();
-            let change = random.change(&room, &self.questions.store);
-            let old: Vec<(usize, u64)> = change.iter().map(|(at, _)| (*at, self.questions.store[*at])).collect();
-            change.iter().for_each(|(at, value)| self.questions.put(*at, &[*value]));
-            let sound = broken(&self.questions.store[..STORE]).0.is_empty();
-            self.tally.kind(true, if sound { "damages still sound" } else { "damages not sound" });
-            self.any_call(STORE, &format!("with a store changed at {change:?} from {old:?}"));
-            old.iter().rev().for_each(|(at, value)| self.questions.put(*at, &[*value]));
-            self.questions.become_store(&records);
-        }
+        (0..calls).for_each(|_| self.damaged(&room));
         self.questions.ask_sum(HELD, "a made room");
     }
 
