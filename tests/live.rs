@@ -3,7 +3,7 @@
 use crate::asked::{told_offer, told_slot, Asked};
 use crate::counters;
 use crate::driver::{fail, Random};
-use crate::loads::Loads;
+use crate::loads::{dense, Loads};
 use crate::opened::{ask_open, RECORDS};
 use crate::opening::{Answer, Request};
 use crate::questions::{HELD, LENGTHS};
@@ -267,7 +267,7 @@ impl<'a> Live<'a> {
             self.fill(&style);
         }
         if kind != 1 {
-            self.fill(&Style::dense(random));
+            self.fill(&dense(random));
         }
         let slots = if self.network.streams.is_empty() { 20 } else { slots };
         let mut loads = Loads::new(random);

@@ -1,6 +1,13 @@
-// What the channels of a room are offered, and when.
+// What the channels of a room in use are like, what they are offered, and when.
 use crate::driver::Random;
 use crate::queues::{Network, Stream};
+use crate::requests::Style;
+
+// Channels with short messages that come often and have time, so that many fit.
+pub fn dense(random: &Random) -> Style {
+    let (c, p, b) = random.pick(&[(1, (3, 30), 2), (4, (8, 80), 3), (2, (2, 12), 1), (12, (30, 90), 2)]);
+    Style { c, p, b, hops: random.pick(&[1, 2, 4, 8]), heavy: false, tight: false, favourite: None }
+}
 
 #[derive(Clone, Copy)]
 enum Habit {

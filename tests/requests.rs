@@ -16,16 +16,16 @@ pub fn network(random: &Random, size: Size) -> Vec<u64> {
 
 // What the channels of a room are like.
 pub struct Style {
-    c: u64,
-    p: (u64, u64),
-    b: u64,
-    hops: u64,
+    pub c: u64,
+    pub p: (u64, u64),
+    pub b: u64,
+    pub hops: u64,
     // whether a channel or two take nearly a whole link, so that the responses of others are long
-    heavy: bool,
+    pub heavy: bool,
     // whether D is often no more than it has to be
-    tight: bool,
+    pub tight: bool,
     // a link that most routes go over
-    favourite: Option<u64>,
+    pub favourite: Option<u64>,
 }
 
 impl Style {
@@ -43,12 +43,6 @@ impl Style {
         let hops = random.pick(if heavy { &[1, 1, 2] } else { &[2, 8, 8, 8] });
         let favourite = random.chance(3).then(|| random.to(links as u64 - 1));
         Style { c, p, b, hops, heavy, tight: random.chance(2), favourite }
-    }
-
-    // Short messages that come often and have time, so that much fits.
-    pub fn dense(random: &Random) -> Style {
-        let (c, p, b) = random.pick(&[(1, (3, 30), 2), (4, (8, 80), 3), (2, (2, 12), 1), (12, (30, 90), 2)]);
-        Style { c, p, b, hops: random.pick(&[1, 2, 4, 8]), heavy: false, tight: false, favourite: None }
     }
 
     // Links that join, as many as are wished for or as there are; over the favourite one, if a dozen tries find such a route.
