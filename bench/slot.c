@@ -11,7 +11,7 @@ enum { SLOTS = 1024, REPEATS = 15, CALLS = 20, RECORDS = RECORD * (17 + CHANNELS
 
 struct calls {
     uint64_t (*offer)(uint64_t *, size_t, uint64_t, uint64_t, uint64_t *, uint64_t *, uint64_t *);
-    uint64_t (*slot)(uint64_t *, size_t, uint64_t *, size_t, uint64_t *, uint64_t *);
+    size_t (*slot)(uint64_t *, size_t, uint64_t *, size_t, uint64_t *, uint64_t *);
     uint64_t (*idle)(const uint64_t *, size_t);
     uint64_t (*skip)(uint64_t *, size_t, uint64_t);
     bool (*sound)(const uint64_t *, size_t);
@@ -99,13 +99,14 @@ static void offer_due(struct side *s, struct run *r) {
 
 /* Slots from the present one on, with the offers before each. */
 static struct run drive(struct side *s) {
-    uint64_t out[SEND * LINKS], sends, place;
+    uint64_t out[SEND * LINKS], number, place;
     struct run r = {0, 0, 0};
     for (uint64_t i = 0; i < SLOTS; i++) {
         offer_due(s, &r);
         double start = now();
-        if (s->f.slot(store, BYANGHOSU_STORE, out, SEND * LINKS, &sends, &place)) fail("every slot should run");
+        size_t sends = s->f.slot(store, BYANGHOSU_STORE, out, SEND * LINKS, &number, &place);
         lessen(&s->slot[i], now() - start);
+        if (number) fail("every slot should run");
         r.sends += sends;
         for (uint64_t k = 0; k < SEND * sends; k++) r.sum = (r.sum ^ out[k]) * 31;
     }
@@ -212,12 +213,14 @@ static void wait_for(struct side *s, uint64_t slots) {
 static void long_wait(void) {
     const struct shape quiet = {CHANNELS, HOPS, 6000, 1, 3};
     struct run r = {0, 0, 0};
-    uint64_t slots, out[SEND * LINKS], sends, place;
+    uint64_t slots, out[SEND * LINKS], number, place;
     open_all(&quiet);
     store[2] = CHANNELS;
     for (int i = 0; i < 3; i++) offer_due(&plain, &r);
-    while (slots = plain_idle(store, BYANGHOSU_STORE), slots == 0)
-        if (plain_slot(store, BYANGHOSU_STORE, out, SEND * LINKS, &sends, &place)) fail("every slot should run");
+    while (slots = plain_idle(store, BYANGHOSU_STORE), slots == 0) {
+        plain_slot(store, BYANGHOSU_STORE, out, SEND * LINKS, &number, &place);
+        if (number) fail("every slot should run");
+    }
     for (int i = 0; i < REPEATS * REPEATS; i++) {
         wait_for(&proved, slots);
         wait_for(&plain, slots);

@@ -62,25 +62,30 @@ static inline bool next_has_room(const uint64_t *store, const struct pick *picks
     return there->any && there->channel == p->channel;
 }
 
-static inline uint64_t plain_slot(uint64_t *store, size_t length, uint64_t *out, size_t room, uint64_t *sends,
-                                  uint64_t *place) {
+static inline size_t refuse(uint64_t *number, uint64_t why) {
+    *number = why;
+    return 0;
+}
+
+static inline size_t plain_slot(uint64_t *store, size_t length, uint64_t *out, size_t room, uint64_t *number, uint64_t *place) {
     struct pick picks[LINKS];
-    *sends = *place = 0;
-    if (!plain_sound(store, length)) return 17;
-    if (store[2] == end_slot) return 14;
-    if (room < SEND * store[0]) return 15;
+    size_t sends = 0;
+    *number = *place = 0;
+    if (!plain_sound(store, length)) return refuse(number, 17);
+    if (store[2] == end_slot) return refuse(number, 14);
+    if (room < SEND * store[0]) return refuse(number, 15);
     for (uint64_t l = 0; l < store[0]; l++) picks[l] = pick_of(store, l);
     for (uint64_t l = 0; l < store[0]; l++)
-        if (picks[l].any && !next_has_room(store, picks, picks + l)) return 17;
+        if (picks[l].any && !next_has_room(store, picks, picks + l)) return refuse(number, 17);
     for (uint64_t l = 0; l < store[0]; l++) {
         const struct pick *p = picks + l;
         if (!p->any) continue;
-        uint64_t *send = out + SEND * (*sends)++;
+        uint64_t *send = out + SEND * sends++;
         send[0] = store[2], send[1] = l, send[2] = p->channel, send[3] = p->message, send[4] = p->packet;
         store[channel_at(p->channel) + SENT + p->place]++;
     }
     store[2]++;
-    return 0;
+    return sends;
 }
 
 /* Whether a message more may be counted and kept, with at most 22 under way before it, and its packets be held. */

@@ -31,9 +31,9 @@ static void offer(uint64_t channel, uint64_t packets) {
 }
 
 static void tick(uint64_t slots) {
-    uint64_t out[SEND * LINKS], sends, place;
+    uint64_t out[SEND * LINKS], refusal, place;
     for (uint64_t n = 0; n < slots; n++) {
-        uint64_t refusal = byanghosu_slot(store, BYANGHOSU_STORE, out, SEND * LINKS, &sends, &place);
+        size_t sends = byanghosu_slot(store, BYANGHOSU_STORE, out, SEND * LINKS, &refusal, &place);
         if (refusal != 0) {
             printf("refused %" PRIu64 " %" PRIu64 "\n", refusal, place);
             break;

@@ -1,9 +1,9 @@
 /* Byanghosu: what the router's control board calls. Numbers and lent buffers only.
  *
- * `byanghosu_sound`, `byanghosu_idle` and `byanghosu_skip` return what is asked for. Every other call returns the refusal
- * number of document 01, or 0 where it ran. A refused call writes no output but `place`, the place that the refusal names (0
- * where none is named), an open's numbers per link, all 0, and a slot's number of sends, 0; a call that ran sets `place` to 0.
- * No pointer may be null, and no two lent buffers of one call may overlap. */
+ * Set-up, open, offer and the response return the refusal number of document 01, or 0 where they ran; a slot gives back its
+ * sends, and writes that number to a lent one. A refused call writes no output but this, `place`, the place that the refusal names
+ * (0 where none is named), and an open's numbers per link, all 0; a call that ran sets `place` to 0. No pointer may be null, and
+ * no two lent buffers of one call may overlap. */
 #ifndef BYANGHOSU_H
 #define BYANGHOSU_H
 
@@ -60,8 +60,8 @@ uint64_t byanghosu_open(uint64_t *store, size_t length, uint64_t c, uint64_t p, 
  *
  * Returns, in the order in which they are looked at: 17 for a store that is not sound, 14 for a clock at the end slot, 11 where
  * there is no such channel, 12 for 0 packets or more than C, 13 for a logical time more than (B - 1) * p slots from now, and 17
- * where the store would not be sound with the message in it, which set-up and the calls since never lead to. A refused call
- * leaves the store as it was; `place` is always 0. */
+ * where the store would not be sound with the message in it, which set-up and the calls since are meant never to lead to. A
+ * refused call leaves the store as it was; `place` is always 0. */
 uint64_t byanghosu_offer(uint64_t *store, size_t length, uint64_t channel, uint64_t packets, uint64_t *message,
                          uint64_t *logical, uint64_t *place);
 
@@ -70,12 +70,13 @@ uint64_t byanghosu_offer(uint64_t *store, size_t length, uint64_t channel, uint6
  * store    what set-up and the calls since have left; `length` numbers
  * out      takes the sends at its front, in the order of the links, five numbers each: slot, link, channel, message and
  *          packet, the last two from 0. It has `room` numbers, at least five a link. The rest of it is left as it was
- * sends    how many sends there were
+ * number   the refusal number, 0 where the slot ran
  *
- * Returns, in the order in which they are looked at: 17 for a store that is not sound, 14 for a clock at the end slot, 15 for an
- * `out` with room for fewer sends than there are links, and 17 where the store would not be sound after the slot, which set-up
- * and the calls since never lead to. A refused call leaves the store and `out` as they were; `place` is always 0. */
-uint64_t byanghosu_slot(uint64_t *store, size_t length, uint64_t *out, size_t room, uint64_t *sends, uint64_t *place);
+ * Returns how many sends there are, 0 on a refusal. Refused, in the order in which they are looked at: 17 for a store that is not
+ * sound, 14 for a clock at the end slot, 15 for an `out` with room for fewer sends than there are links, and 17 where the store
+ * would not be sound after the slot, which set-up and the calls since are meant never to lead to. A refused call leaves the store and
+ * `out` as they were; `place` is always 0. */
+size_t byanghosu_slot(uint64_t *store, size_t length, uint64_t *out, size_t room, uint64_t *number, uint64_t *place);
 
 /* Long waits: how many slots from now no link can send in, if nothing is offered until then. All that are left up to the end slot
  * if no packet is held, and 0 for a store that is not sound. Nothing is written. */

@@ -17,7 +17,7 @@
  * offer LENGTH CHANNEL PACKETS  ->   NUMBER PLACE MESSAGE LOGICAL of an offer in the first LENGTH numbers; the place 333, the
  *                                    message 444, the logical time 555 before the call
  * slot LENGTH ROOM              ->   NUMBER PLACE SENDS CHANGED of a slot in the first LENGTH numbers with an output of ROOM
- *                                    numbers, then five numbers a send; the place 333, the sends 444 before the call. CHANGED
+ *                                    numbers, then five numbers a send; the place 333, the number 444 before the call. CHANGED
  *                                    is how many numbers past the sends, in the output and beyond it, are not what they were
  * run LENGTH ROOM COUNT         ->   NUMBER PLACE SLOTS SENDS CHANGED SUM of so many slots, or up to the first that is refused:
  *                                    its number and place, how many ran, the sends of all, and a sum over them in turn
@@ -132,14 +132,14 @@ static void offer(void) {
 
 /* What a slot answered; `numbers` are those of its sends that the output has room for. */
 struct turn {
-    uint64_t refusal, place, sends, changed;
-    size_t numbers;
+    uint64_t refusal, place, changed;
+    size_t sends, numbers;
 };
 
 static struct turn turn(size_t length, size_t room) {
-    struct turn t = {0, 333, 444, 0, 0};
+    struct turn t = {444, 333, 0, 0, 0};
     for (size_t i = 0; i < room + BEYOND; i++) out[i] = UNWRITTEN;
-    t.refusal = byanghosu_slot(store, length, out, room, &t.sends, &t.place);
+    t.sends = byanghosu_slot(store, length, out, room, &t.refusal, &t.place);
     t.numbers = t.sends < room / SEND ? SEND * t.sends : room / SEND * SEND;
     for (size_t i = t.numbers; i < room + BEYOND; i++) t.changed += out[i] != UNWRITTEN;
     return t;
@@ -148,7 +148,7 @@ static struct turn turn(size_t length, size_t room) {
 static void slot(void) {
     size_t length = number_to(HELD), room = number_to(MOST);
     struct turn t = turn(length, room);
-    printf("%" PRIu64 " %" PRIu64 " %" PRIu64 " %" PRIu64, t.refusal, t.place, t.sends, t.changed);
+    printf("%" PRIu64 " %" PRIu64 " %zu %" PRIu64, t.refusal, t.place, t.sends, t.changed);
     for (size_t i = 0; i < t.numbers; i++) printf(" %" PRIu64, out[i]);
     printf("\n");
 }
