@@ -3,3 +3,4 @@ pub mod Best
 pub mod Pick
 pub mod Next
 pub mod Ends
+pub mod Sends
