@@ -16,7 +16,7 @@ ghost use Rattle.pick.specs.Picks.{picksTo};
 ghost use Rattle.carry.specs.Sends.{sendPut, mostPackets};
 
 // The position of the row that link `l` picked, counted from 1; 0 for none.
-fn pick(picks: &[u64; 16], l: usize) -> usize
+pub fn pick(picks: &[u64; 16], l: usize) -> usize
     requires { ⌜ l < mostLinks ⌝ }
     ensures { λ r. ⌜ r ≡ numberAt (now (picks .entry)) l ⌝ }
 {
