@@ -1,0 +1,52 @@
+-- The checks of a slot: each as the code looks at it, and how the slot ends. Assumes nothing.
+use Prim.Native.Nat.{ℕ, _*_, _≤_, _<_}
+use mathlib.Core.Path.{_≡_}
+use mathlib.Core.Bool.{true, false}
+use mathlib.Core.List.{List, _∷_}
+use native.Mathlib.Omega.{arith}
+use lib.Dec.{leb, ltb}
+use lib.ListN.{take, drop}
+use borrow.Author.Tests.{ltb-true, le-leb, lt-leb, lt-ltb, le-ltb}
+use Rattle.kinds.specs.Ranges.{endSlot}
+use Rattle.room.specs.Layout.{Store, linksOf, clockOf}
+use Rattle.room.specs.Folds.{every}
+use Rattle.room.specs.Sound.{soundOf}
+use Rattle.checks.specs.Checks.{Check}
+use Rattle.checks.proofs.Laws.{AllHold, all-passed, fails-after}
+use Rattle.traffic.specs.declared.Turn.the-variants.{Ran, Refused}
+use Rattle.traffic.specs.Slot.{moved, slotChecks, slotTurn}
+use Rattle.moved.specs.Room.{roomAfter}
+use Rattle.moved.proofs.Sound.{moved-sound}
+
+-- 14 and 15, on the numbers as the code reads them
+module _ {x clock : ℕ} (e : x ≡ clock) where
+  pub at-end : endSlot ≤ x → ltb clock endSlot ≡ false
+  at-end h = le-ltb clock endSlot (rw e at h)
+
+  pub before-end : x < endSlot → ltb clock endSlot ≡ true
+  before-end h = lt-ltb clock endSlot (rw e at h)
+
+module _ {x links room : ℕ} (e : x ≡ links) where
+  pub too-short : room < 5 * x → leb (5 * links) room ≡ false
+  too-short h = lt-leb (5 * links) room (rw e at h)
+
+  pub long-enough : 5 * x ≤ room → leb (5 * links) room ≡ true
+  long-enough h = le-leb (5 * links) room (rw e at h)
+
+-- a slot that is refused has not run
+pub never-ran : {P : Type 0} (number place : ℕ) → Refused number place ≡ Ran → P
+never-ran number place e = absurd (let z : _≡_ {A = ℕ} 0 1 = cc in omega arith)
+
+module _ (w : Store) (room : ℕ) where
+  -- the last check, once those before it hold
+  pub room-decides : AllHold (take 3 (slotChecks w room)) → soundOf (moved w) ≡ every (roomAfter w) (linksOf w)
+  room-decides h = moved-sound w (h .0) (ltb-true (clockOf w) endSlot (h .1 .0))
+
+  pub turn-refused : {x : Check} {rest : List Check} (k : ℕ) → drop k (slotChecks w room) ≡ x ∷ rest
+      → AllHold (take k (slotChecks w room)) → x .holds ≡ false → Refused (x .number) (x .place) ≡ slotTurn w room
+  unfolding slotTurn
+  turn-refused k e h f = fails-after Refused (slotChecks w room) k Ran e h f
+
+  pub turn-ran : AllHold (slotChecks w room) → slotTurn w room ≡ Ran
+  unfolding slotTurn
+  turn-ran h = all-passed Refused (slotChecks w room) Ran h
