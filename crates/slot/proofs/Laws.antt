@@ -1,0 +1,115 @@
+-- What a slot says of the store and the output that it leaves, for the crates above. Assumes nothing.
+use Prim.Native.Nat.{ℕ, _*_, _≤_, _<_}
+use mathlib.Core.Path.{_≡_, refl, sym, _∙_}
+use mathlib.Core.Bool.{Bool, true, false}
+use mathlib.Core.List.{List, []}
+use mathlib.Core.Logic.{_⊎_, inl, inr}
+use native.Mathlib.Omega.{arith}
+use lib.Dec.{leb, ltb}
+use lib.ListN.{length, take}
+use lib.Seq.{take-at}
+use borrow.Author.Tests.{leb-true, ltb-true}
+use Rattle.kinds.specs.Ranges.{endSlot}
+use Rattle.room.specs.Layout.{Store, linksOf, clockOf}
+use Rattle.room.specs.Sound.{soundOf}
+use Rattle.checks.proofs.Laws.{AllHold, one-more, all-passed, fails-after, accepted-all}
+use Rattle.traffic.specs.declared.Turn.{Turn}
+use Rattle.traffic.specs.declared.Turn.the-variants.{Ran, Refused}
+use Rattle.traffic.specs.Slot.{Send, numbers, slotSends, moved, slotChecks, slotTurn, slotNumber, slotPlace, slotSent, slotStore}
+use Rattle.traffic.specs.Slot.{written, slotOut}
+use Rattle.traffic.proofs.Laws.Sends.{numbers-length, sends-most, written-none}
+use Rattle.turn.proofs.Checks.{never-ran}
+
+-- "slot 17, 14, 15"; "where none is named it is 0"
+abbrev pub Refusal : (number place : ℕ) → Type 0
+Refusal number place = ((number ≡ 17) ⊎ ((number ≡ 14) ⊎ (number ≡ 15))) × (place ≡ 0)
+
+module _ (w : Store) (room : ℕ) where
+  -- a slot that ran
+  module _ (e : slotTurn w room ≡ Ran) where
+    holds : AllHold (slotChecks w room)
+    unfolding slotTurn
+    holds = accepted-all Refused (slotChecks w room) Ran Ran never-ran e
+
+    -- it stood on these
+    pub ran-sound : soundOf w ≡ true
+    ran-sound = holds .0
+
+    pub ran-before-end : clockOf w < endSlot
+    ran-before-end = ltb-true (clockOf w) endSlot (holds .1 .0)
+
+    pub ran-room : 5 * linksOf w ≤ room
+    ran-room = leb-true (5 * linksOf w) room (holds .1 .1 .0)
+
+    pub slot-sound : soundOf (slotStore w room) ≡ true
+    slot-sound = rw e (holds .1 .1 .1 .0)
+
+    sends-fit : 5 * length (slotSends w) ≤ room
+    sends-fit = omega (arith, ran-room, sends-most w (linksOf w))
+
+  -- a refused one
+  module _ (number place : ℕ) (e : slotTurn w room ≡ Refused number place) where
+    pub refused-store : slotStore w room ≡ w
+    refused-store = rw e
+
+    pub refused-sends : slotSent w room ≡ []
+    refused-sends = rw e
+
+    named : (n : ℕ) → Refused n 0 ≡ slotTurn w room → (number ≡ n) × (place ≡ 0)
+    named n f = let g : Refused n 0 ≡ Refused number place = f ∙ e in ((cc), (cc))
+
+    pub refused-number : Refusal number place
+    unfolding slotTurn
+    refused-number = go-17 (soundOf w) refl
+      where
+        go-last : AllHold (take 3 (slotChecks w room)) → (t : Bool) → soundOf (moved w) ≡ t → Refusal number place
+        go-last h true f =
+            never-ran number place (sym e ∙ all-passed Refused (slotChecks w room) Ran (one-more (slotChecks w room) 3 refl h f))
+        go-last h false f = let k = named 17 (fails-after Refused (slotChecks w room) 3 Ran refl h f) in (inl (k .0), k .1)
+
+        go-15 : AllHold (take 2 (slotChecks w room)) → (t : Bool) → leb (5 * linksOf w) room ≡ t → Refusal number place
+        go-15 h true f = go-last (one-more (slotChecks w room) 2 refl h f) (soundOf (moved w)) refl
+        go-15 h false f = let k = named 15 (fails-after Refused (slotChecks w room) 2 Ran refl h f) in (inr (inr (k .0)), k .1)
+
+        go-14 : AllHold (take 1 (slotChecks w room)) → (t : Bool) → ltb (clockOf w) endSlot ≡ t → Refusal number place
+        go-14 h true f = go-15 (one-more (slotChecks w room) 1 refl h f) (leb (5 * linksOf w) room) refl
+        go-14 h false f = let k = named 14 (fails-after Refused (slotChecks w room) 1 Ran refl h f) in (inr (inl (k .0)), k .1)
+
+        go-17 : (t : Bool) → soundOf w ≡ t → Refusal number place
+        go-17 true f = go-14 (one-more (slotChecks w room) 0 refl tt f) (ltb (clockOf w) endSlot) refl
+        go-17 false f = let k = named 17 (fails-after Refused (slotChecks w room) 0 Ran refl tt f) in (inl (k .0), k .1)
+
+  -- either way the sends have room
+  pub sent-fits : 5 * length (slotSent w room) ≤ room
+  sent-fits = go (slotTurn w room) refl
+    where
+      go : (t : Turn) → slotTurn w room ≡ t → 5 * length (slotSent w room) ≤ room
+      go Ran e = rw e (sends-fit e)
+      go (Refused number place) e = rw e (omega arith)
+
+module _ (w : Store) (out : List ℕ) where
+  pub refused-out : (number place : ℕ) → slotTurn w (length out) ≡ Refused number place → slotOut w out ≡ out
+  refused-out number place e = rw e (written-none out)
+
+  -- What a slot gives back and leaves: the number of its sends, the store, the output, its number and place.
+  abbrev pub Ends : (n : ℕ) → (later : Store) → (full : List ℕ) → (number place : ℕ) → Type 0
+  Ends n later full number place =
+      (n ≡ length (slotSent w (length out))) × ((later ≡ slotStore w (length out)) × ((full ≡ slotOut w out)
+      × ((number ≡ slotNumber w (length out)) × (place ≡ slotPlace w (length out)))))
+
+  pub ends-refused : (number place : ℕ) → slotTurn w (length out) ≡ Refused number place → Ends 0 w out number place
+  ends-refused number place e = rw e (refl, (refl, (sym (written-none out), (refl, refl))))
+
+  pub ends-ran : slotTurn w (length out) ≡ Ran → (n : ℕ) (later : Store) (full : List ℕ) → n ≡ length (slotSends w)
+      → later ≡ moved w → full ≡ written (slotSends w) out → Ends n later full 0 0
+  ends-ran e n later full a b c = rw e (a, (b, (c, (refl, refl))))
+
+  -- the front part of the output is the sends
+  module _ (n : ℕ) (full : List ℕ) (a : n ≡ length (slotSent w (length out))) (b : full ≡ slotOut w out) where
+    pub front-part : take (5 * n) full ≡ numbers (slotSent w (length out))
+    front-part =
+        let sends : List Send = slotSent w (length out) in
+        rw (a, b) (take-at (numbers sends) _ (5 * length sends) (numbers-length sends))
+
+    pub front-length : 5 * n ≡ length (take (5 * n) full)
+    front-length = rw (front-part, numbers-length (slotSent w (length out)), a)
