@@ -1,14 +1,20 @@
 // What the router's control board calls, from C: numbers and lent buffers only. include/byanghosu.h declares it.
-// Every call returns the refusal number of document 01, or 0 where it ran; a refused call writes no output but `place`.
+// A call that can be refused returns the refusal number of document 01, or 0 where it ran, and a refused call writes no output but
+// `place`; a slot gives back its sends, and its number is lent, as document 01 has it.
 use opening::Outcome;
 use response::Answer;
 use response::Reply;
 use setup::SetUp;
+use traffic::Offered;
 ghost use mathlib.Core.Path.{_≡_};
 ghost use Rattle.opening.specs.Open.{openAnswer, openStore, valuesOf as openValues};
 ghost use Rattle.room.specs.Sound.{soundOf};
 ghost use Rattle.setup.specs.SetUp.{setUpAnswer, setUpStore, valuesOf as setUpValues};
 ghost use Rattle.response.specs.Alone.{valuesOf, aloneOn};
+ghost use lib.ListN.{length};
+ghost use Rattle.traffic.specs.Offer.{offerAnswer, offerStore, valuesOf as offerValues};
+ghost use Rattle.traffic.specs.Slot.{slotNumber, slotPlace, slotSent, slotStore, slotOut};
+ghost use Rattle.traffic.specs.Idle.{idleOf, skipped, skipStore};
 
 // The response-time calculation by itself. `table` has C, p and delay of each row in turn, highest priority first.
 #[no_mangle]
@@ -111,6 +117,65 @@ pub extern "C" fn byanghosu_open(
             why
         }
     }
+}
+
+// Offers a message of so many packets. `message` takes its number, from 0, and `logical` its logical time, where it was accepted.
+#[no_mangle]
+pub extern "C" fn byanghosu_offer(
+    store: &mut [u64],
+    channel: u64,
+    packets: u64,
+    message: &mut u64,
+    logical: &mut u64,
+    place: &mut u64,
+) -> u64
+    ensures { λ r. ⌜ record { number = r; place = now (place .exit); message = now (message .exit); logical = now (logical .exit) }
+        ≡ offerValues (offerAnswer (now (store .entry)) channel packets) (now (message .entry)) (now (logical .entry)) ⌝ }
+    ensures { λ _. ⌜ now (store .exit) ≡ offerStore (now (store .entry)) channel packets ⌝ }
+{
+    let offered = offer::offer(store, channel, packets);
+    match offered {
+        Offered::Accepted(n, time) => {
+            *message = n;
+            *logical = time;
+            *place = 0;
+            0
+        }
+        Offered::Refused(why, at) => {
+            *place = at;
+            why
+        }
+    }
+}
+
+// Runs a slot and returns the number of its sends, which stand at the front of `out`, five numbers each; `number` and `place` take
+// those of the refusal, or 0 and 0.
+#[no_mangle]
+pub extern "C" fn byanghosu_slot(store: &mut [u64], out: &mut [u64], number: &mut u64, place: &mut u64) -> usize
+    ensures { λ r. ⌜ r ≡ length (slotSent (now (store .entry)) (length (now (out .entry)))) ⌝ }
+    ensures { λ _. ⌜ now (store .exit) ≡ slotStore (now (store .entry)) (length (now (out .entry))) ⌝ }
+    ensures { λ _. ⌜ now (out .exit) ≡ slotOut (now (store .entry)) (now (out .entry)) ⌝ }
+    ensures { λ _. ⌜ now (number .exit) ≡ slotNumber (now (store .entry)) (length (now (out .entry))) ⌝ }
+    ensures { λ _. ⌜ now (place .exit) ≡ slotPlace (now (store .entry)) (length (now (out .entry))) ⌝ }
+{
+    slot::run(store, out, number, place)
+}
+
+// How many slots from now no link can send in, if nothing is offered.
+#[no_mangle]
+pub extern "C" fn byanghosu_idle(store: &[u64]) -> u64
+    ensures { λ r. ⌜ r ≡ idleOf (now (store .entry)) ⌝ }
+{
+    wait::idle(store)
+}
+
+// Moves the clock on over such slots, `n` of them or as many as there are, and returns how many.
+#[no_mangle]
+pub extern "C" fn byanghosu_skip(store: &mut [u64], n: u64) -> u64
+    ensures { λ r. ⌜ r ≡ skipped (now (store .entry)) n ⌝ }
+    ensures { λ _. ⌜ now (store .exit) ≡ skipStore (now (store .entry)) n ⌝ }
+{
+    wait::skip(store, n)
 }
 
 // Whether a store is sound. Every other call asks this by itself.
