@@ -1,18 +1,19 @@
 -- Looking back from the last message for the one that a packet is of, and how large its logical time can be. Assumes nothing.
-use Prim.Native.Nat.{ℕ, zero, suc, _+_, _-_, _*_, _≤_, _<_}
-use mathlib.Core.Path.{_≡_, refl}
+use Prim.Native.Nat.{ℕ, zero, suc, _+_, _-_, _*_, _%_, _≤_, _<_}
+use mathlib.Core.Path.{_≡_, refl, sym, _∙_}
 use mathlib.Core.Bool.{true}
 use native.Mathlib.Nat.{le-trans}
 use native.Mathlib.Numerals.{unary-clauses}
 use native.Mathlib.Omega.{arith}
 use borrow.Author.Tests.{le-leb, lt-leb, ltb-true}
 use Rattle.kinds.specs.Ranges.{mostChannels, mostHops, mostP, mostNumber}
-use Rattle.room.specs.Layout.{Store, Long, channelsOf, hopsOf, delayOf, sentOf, timeOf, endOf}
+use Rattle.room.specs.Layout.{Store, Long, ring, placeBefore, channelsOf, hopsOf, delayOf, sentOf, timeOf, endOf}
 use Rattle.room.specs.Folds.{sumTo}
 use Rattle.room.specs.Amounts.{enteredOf}
 use Rattle.room.specs.Sound.{soundOf}
 use Rattle.room.specs.Ranged.{Ranged}
 use Rattle.room.proofs.Laws.Folds.{sum-most}
+use Rattle.room.proofs.Laws.Ring.{ring-end, ring-back}
 use Rattle.room.proofs.Laws.Sound.{ChannelIs, sound-is, sound-fit, fit-ranged}
 use Rattle.traffic.specs.Head.{messageWith, messageOf, logicalOf, isHeld}
 use Rattle.traffic.proofs.Laws.Head.{message-is}
@@ -30,7 +31,7 @@ module _ (w : Store) (c x : ℕ) where
   message-last n zero h = refl
   message-last n (suc left) h = absurd (omega arith)
 
-  pub message-here : (n left e : ℕ) → 0 < left → (n ≡ 0 → ⊥) → e ≡ endOf w c (n - 1) → e ≤ x → messageWith w c x n left ≡ n
+  message-here : (n left e : ℕ) → 0 < left → (n ≡ 0 → ⊥) → e ≡ endOf w c (n - 1) → e ≤ x → messageWith w c x n left ≡ n
   unfolding messageWith
   message-here n zero e h z f l = absurd (omega arith)
   message-here zero (suc left) e h z f l = absurd (z refl)
@@ -38,7 +39,7 @@ module _ (w : Store) (c x : ℕ) where
       let m : endOf w c n ≤ x = simp unary-clauses at (rw f at l) in
       rw (le-leb (endOf w c n) x m, messageWith)
 
-  pub message-back : (n left e : ℕ) → 0 < left → (n ≡ 0 → ⊥) → e ≡ endOf w c (n - 1) → x < e
+  message-back : (n left e : ℕ) → 0 < left → (n ≡ 0 → ⊥) → e ≡ endOf w c (n - 1) → x < e
       → messageWith w c x n left ≡ messageWith w c x (n - 1) (left - 1)
   unfolding messageWith
   message-back n zero e h z f l = absurd (omega arith)
@@ -46,6 +47,25 @@ module _ (w : Store) (c x : ℕ) where
   message-back (suc n) (suc left) e h z f l =
       let m : x < endOf w c n = simp unary-clauses at (rw f at l) in
       simp unary-clauses (rw (lt-leb (endOf w c n) x m, messageWith))
+
+-- A loop back over the messages: message n stands at place `at` of the ring, and what is left decides.
+pub record Looking (w : Store) (c j x n at left : ℕ) : Type 0 where
+  pub place : at ≡ n % ring
+  pub same : messageOf w c j ≡ messageWith w c x n left
+
+module _ (w : Store) (c j x n at left : ℕ) (o : Looking w c j x n at left) (z : n ≡ 0 → ⊥) (b : ℕ) (p : b ≡ placeBefore at) where
+  place-back : b ≡ (n - 1) % ring
+  place-back = p ∙ ring-back n at (o .place) z
+
+  end-back : (e : ℕ) → e ≡ endOf w c b → e ≡ endOf w c (n - 1)
+  end-back e f = f ∙ ring-end (n - 1) b place-back w c
+
+  pub looking-found : (e : ℕ) → e ≡ endOf w c b → 0 < left → e ≤ x → n ≡ messageOf w c j
+  looking-found e f h l = sym (o .same ∙ message-here w c x n left e h z (end-back e f) l)
+
+  pub looking-back : (e : ℕ) → e ≡ endOf w c b → 0 < left → x < e → Looking w c j x (n - 1) b (left - 1)
+  looking-back e f h l =
+      record { place = place-back; same = o .same ∙ message-back w c x n left e h z (end-back e f) l }
 
 -- Place j of the route of a sound channel: it can be read, and a logical time there is far from 2 ^ 64.
 module _ (w : Store) (e : soundOf w ≡ true) (c j : ℕ) (h : c < channelsOf w) (l : j < hopsOf w c) where

@@ -19,15 +19,19 @@ pub fn message(store: &[u64], c: usize, j: usize) -> u64
 {
     let sent = channel::sent(store, c, j);
     let mut n = channel::messages(store, c);
+    // the place of message `n` in the ring
+    let mut at = channel::ring_place(n);
     let mut left = room::UNDELIVERED;
     while left > 0 {
         if n == 0 {
             return 0;
         }
-        if channel::end(store, c, n - 1) <= sent {
+        let before = channel::place_before(at);
+        if channel::end_in(store, c, before) <= sent {
             return n;
         }
         n -= 1;
+        at = before;
         left -= 1;
     }
     n

@@ -5,3 +5,4 @@ pub mod Adding
 pub mod Amounts
 pub mod Sound
 pub mod Cleared
+pub mod Ring

@@ -1,6 +1,6 @@
 -- The lent store, number by number. docs/STORE.md is this page as a table. Nothing else names a place: the code and the
 -- definitions above read a field by its name and write it by its `with` name.
-use Prim.Native.Nat.{ℕ, zero, suc, _+_, _*_, _%_, _≤_}
+use Prim.Native.Nat.{ℕ, zero, suc, _+_, _-_, _*_, _%_, _≤_}
 use mathlib.Core.List.{List}
 use lib.ListN.{length, getD, set}
 
@@ -111,6 +111,11 @@ timeAt c n = channelAt c + 32 + n % ring
 
 abbrev pub endAt : (c n : ℕ) → ℕ
 endAt c n = channelAt c + 56 + n % ring
+
+-- the place before another in the ring; the last one is before the first
+unfoldable pub placeBefore : ℕ → ℕ
+placeBefore zero = ring - 1
+placeBefore (suc at) = at
 
 -- what it has sent and its messages' times and ends stand from `sentAt c 0` up to here
 abbrev pub courseEnd : ℕ → ℕ

@@ -3,11 +3,11 @@ use super::CHANNELS;
 use super::RECORD;
 use super::RING;
 ghost use mathlib.Core.Path.{_≡_};
-ghost use Prim.Native.Nat.{_<_};
+ghost use Prim.Native.Nat.{_%_, _<_};
 ghost use Rattle.kinds.specs.Ranges.{mostChannels, mostHops};
 ghost use Rattle.room.specs.Layout.{Long, routeStart, cOf, withC, pOf, withP, dOf, withD, bOf, withB, hopsOf, withHops};
 ghost use Rattle.room.specs.Layout.{messagesOf, withMessages, routeOf, withRoute, delayOf, withDelay, sentOf};
-ghost use Rattle.room.specs.Layout.{withSent, timeOf, withTime, endOf, withEnd, cleared, recordLength};
+ghost use Rattle.room.specs.Layout.{withSent, timeOf, withTime, endOf, withEnd, ring, placeBefore, cleared, recordLength};
 
 // Every number of its record is 0.
 pub fn clear(store: &mut [u64], c: usize)
@@ -211,4 +211,38 @@ pub fn put_end(store: &mut [u64], c: usize, n: u64, v: u64)
     ensures { λ _. ⌜ now (store .exit) ≡ withEnd (now (store .entry)) c n v ⌝ }
 {
     store[CHANNELS + RECORD * c + 56 + (n % RING) as usize] = v;
+}
+
+// The ring of a channel's last messages, for a walk back from message to message without a division at each: the place of
+// message `n`, the place before another, and what stands at a place.
+pub fn ring_place(n: u64) -> usize
+    ensures { λ r. ⌜ r ≡ n % ring ⌝ }
+{
+    (n % RING) as usize
+}
+
+pub fn place_before(at: usize) -> usize
+    requires { ⌜ at < ring ⌝ }
+    ensures { λ r. ⌜ r ≡ placeBefore at ⌝ }
+    ensures { λ r. ⌜ r < ring ⌝ }
+{
+    if at == 0 { (RING - 1) as usize } else { at - 1 }
+}
+
+pub fn time_in(store: &[u64], c: usize, at: usize) -> u64
+    requires { ⌜ Long (now store) ⌝ }
+    requires { ⌜ c < mostChannels ⌝ }
+    requires { ⌜ at < ring ⌝ }
+    ensures { λ r. ⌜ r ≡ timeOf (now (store .entry)) c at ⌝ }
+{
+    store[CHANNELS + RECORD * c + at + 32]
+}
+
+pub fn end_in(store: &[u64], c: usize, at: usize) -> u64
+    requires { ⌜ Long (now store) ⌝ }
+    requires { ⌜ c < mostChannels ⌝ }
+    requires { ⌜ at < ring ⌝ }
+    ensures { λ r. ⌜ r ≡ endOf (now (store .entry)) c at ⌝ }
+{
+    store[CHANNELS + RECORD * c + at + 56]
 }

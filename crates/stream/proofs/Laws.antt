@@ -1,5 +1,5 @@
 -- The loops over a channel's places and messages, and the tests as the code makes them. Assumes nothing.
-use Prim.Native.Nat.{ℕ, zero, suc, _+_, _-_, _*_, _≤_, _<_}
+use Prim.Native.Nat.{ℕ, zero, suc, _+_, _-_, _*_, _%_, _≤_, _<_}
 use mathlib.Core.Path.{_≡_, refl, sym, ap, _∙_}
 use mathlib.Core.Bool.{Bool, true, false, _&&_, and-eq-true-iff}
 use native.Mathlib.Omega.{arith}
@@ -16,13 +16,15 @@ use Rattle.kinds.specs.declared.Route.{Route}
 use Rattle.kinds.specs.declared.CheckedChannel.the-variants as channel
 use Rattle.kinds.specs.declared.CheckedRoute.the-variants as route
 use Rattle.kinds.proofs.Laws.{within-true, channel-bounds, good-channel, refused-channel, good-route, refused-route}
-use Rattle.room.specs.Layout.{Store, ring, routeStart, routeOf, cOf, pOf, dOf, bOf, hopsOf, messagesOf, delayOf, sentOf, timeOf, endOf}
+use Rattle.room.specs.Layout.{Store, ring, placeBefore, routeStart, routeOf, cOf, pOf, dOf, bOf, hopsOf, messagesOf, delayOf}
+use Rattle.room.specs.Layout.{sentOf, timeOf, endOf}
 use Rattle.room.specs.Folds.{every, firstNot}
 use Rattle.room.specs.Route.{from, exists, isNew, joins, routePasses}
 use Rattle.room.specs.Amounts.{acceptedOf, deliveredOf, enteredOf}
 use Rattle.room.specs.Sound.{channelFits, placeFits, delivered, follows, inOrder, messagesFit}
 use Rattle.room.proofs.Laws.Folds.{every-false, Passing, passing-none, passing-more, passing-done, first-less, first-all, first-test}
 use Rattle.room.proofs.Laws.Amounts.{entered-later}
+use Rattle.room.proofs.Laws.Ring.{ring-after, ring-same, ring-next, ring-time, ring-end, ring-back}
 
 -- Checks 3, 4 and 5 of the route that starts at place `at`.
 module _ (w : Store) (c n at : ℕ) (start : at ≡ routeStart c) where
@@ -105,36 +107,52 @@ module _ (t p l : ℕ) where
   pub not-apart : l < p → leb p l ≡ leb (t + p) l
   not-apart h = rw (lt-leb p l h) (sym (lt-leb (t + p) l (omega arith)))
 
--- Message n + 1 after message n: `before` and `end` are their ends.
-module _ (w : Store) (c n before end : ℕ) (b : before ≡ endOf w c n) (e : end ≡ endOf w c (n + 1)) where
-  pub follows-empty : end ≤ before → false ≡ follows w c n
+-- Message n + 1 after message n: `start` and `end` are their ends.
+module _ (w : Store) (c n start end : ℕ) (b : start ≡ endOf w c n) (e : end ≡ endOf w c (n + 1)) where
+  pub follows-empty : end ≤ start → false ≡ follows w c n
   follows-empty h =
       let m : endOf w c (n + 1) ≤ endOf w c n = rw (e, b) at h in
       rw (le-ltb (endOf w c n) (endOf w c (n + 1)) m)
 
-  sizes : (k : ℕ) → k ≡ cOf w c → before < end → end - before ≤ k
+  sizes : (k : ℕ) → k ≡ cOf w c → start < end → end - start ≤ k
       → (ltb (endOf w c n) (endOf w c (n + 1)) && leb (endOf w c (n + 1)) (endOf w c n + cOf w c)) ≡ true
   sizes k q h l =
       let m : endOf w c n < endOf w c (n + 1) = rw (b, e) at h in
       let o : endOf w c (n + 1) ≤ endOf w c n + cOf w c = omega (arith, (rw (b, e, q) at l)) in
       rw (lt-ltb (endOf w c n) (endOf w c (n + 1)) m, le-leb (endOf w c (n + 1)) (endOf w c n + cOf w c) o)
 
-  pub follows-long : (k : ℕ) → k ≡ cOf w c → before < end → k < end - before → false ≡ follows w c n
+  pub follows-long : (k : ℕ) → k ≡ cOf w c → start < end → k < end - start → false ≡ follows w c n
   follows-long k q h l =
       let m : endOf w c n < endOf w c (n + 1) = rw (b, e) at h in
       let o : endOf w c n + cOf w c < endOf w c (n + 1) = omega (arith, (rw (b, e, q) at l)) in
       rw (lt-ltb (endOf w c n) (endOf w c (n + 1)) m, lt-leb (endOf w c (n + 1)) (endOf w c n + cOf w c) o)
 
-  module _ (k sent : ℕ) (q : k ≡ cOf w c) (d : sent ≡ deliveredOf w c) (h : before < end) (l : end - before ≤ k) where
-    pub follows-delivered : before ≤ sent → true ≡ follows w c n
+  module _ (k sent : ℕ) (q : k ≡ cOf w c) (d : sent ≡ deliveredOf w c) (h : start < end) (l : end - start ≤ k) where
+    pub follows-delivered : start ≤ sent → true ≡ follows w c n
     follows-delivered a =
         let m : endOf w c n ≤ deliveredOf w c = rw (b, d) at a in
         rw (sizes k q h l, le-leb (endOf w c n) (deliveredOf w c) m)
 
-    pub follows-apart : sent < before → (r : Bool) → r ≡ leb (timeOf w c n + pOf w c) (timeOf w c (n + 1)) → r ≡ follows w c n
+    pub follows-apart : sent < start → (r : Bool) → r ≡ leb (timeOf w c n + pOf w c) (timeOf w c (n + 1)) → r ≡ follows w c n
     follows-apart a r s =
         let m : deliveredOf w c < endOf w c n = rw (d, b) at a in
         rw (sizes k q h l, lt-leb (endOf w c n) (deliveredOf w c) m) s
+
+-- The same as read in the ring: the message at place `at` after the one at place `before`.
+module _ (w : Store) (c at before : ℕ) (inside : at < ring) (p : before ≡ placeBefore at) where
+  pub start-is : (start : ℕ) → start ≡ endOf w c before → start ≡ endOf w c (placeBefore at)
+  start-is start e = rw p at e
+
+  pub end-is : (end : ℕ) → end ≡ endOf w c at → end ≡ endOf w c (placeBefore at + 1)
+  end-is end e = e ∙ ring-end (placeBefore at + 1) at (ring-after at inside) w c
+
+  pub apart-is : (r : Bool) → r ≡ leb (timeOf w c before + pOf w c) (timeOf w c at)
+      → r ≡ leb (timeOf w c (placeBefore at) + pOf w c) (timeOf w c (placeBefore at + 1))
+  apart-is r e = rw (p, ring-time (placeBefore at + 1) at (ring-after at inside) w c) at e
+
+-- a message's place in the ring tells as much
+follows-place : (w : Store) (c n at : ℕ) → at ≡ n % ring → follows w c at ≡ follows w c n
+follows-place w c n at e = rw (ring-same n at e, ring-next n at e)
 
 -- One step back: message n, with `left` more that may be looked at.
 module _ (w : Store) (c : ℕ) where
@@ -165,21 +183,24 @@ module _ (w : Store) (c : ℕ) where
   order-end n zero h = refl
   order-end n (suc left) h = absurd (omega arith)
 
--- A loop back over the messages: what is left decides.
-pub record Ordering (w : Store) (c last most sent n left : ℕ) : Type 0 where
+-- A loop back over the messages: message n stands at place `at`, and what is left decides.
+pub record Ordering (w : Store) (c last most sent n at left : ℕ) : Type 0 where
   pub sent-is : sent ≡ deliveredOf w c
-  pub small : n ≤ mostNumber
+  pub place : at ≡ n % ring
   pub same : inOrder w c last most ≡ inOrder w c n left
 
-module _ (w : Store) (c last most sent n left end : ℕ) (o : Ordering w c last most sent n left) (e : end ≡ endOf w c n) where
+module _ (w : Store) (c last most sent n at left end : ℕ) (o : Ordering w c last most sent n at left) (e : end ≡ endOf w c at) where
+  end-of : end ≡ endOf w c n
+  end-of = e ∙ ring-end n at (o .place) w c
+
   is-delivered : end ≤ sent → delivered w c n ≡ true
   is-delivered h =
-      let m : endOf w c n ≤ deliveredOf w c = rw (e, o .sent-is) at h in
+      let m : endOf w c n ≤ deliveredOf w c = rw (end-of, o .sent-is) at h in
       le-leb (endOf w c n) (deliveredOf w c) m
 
   not-delivered : sent < end → delivered w c n ≡ false
   not-delivered h =
-      let m : deliveredOf w c < endOf w c n = rw (o .sent-is, e) at h in
+      let m : deliveredOf w c < endOf w c n = rw (o .sent-is, end-of) at h in
       lt-leb (endOf w c n) (deliveredOf w c) m
 
   pub ordering-delivered : end ≤ sent → true ≡ inOrder w c last most
@@ -189,19 +210,20 @@ module _ (w : Store) (c last most sent n left end : ℕ) (o : Ordering w c last 
   ordering-lost h z l = sym (o .same ∙ order-lost w c n left h z (not-delivered l))
 
   module _ (h : 0 < left) (z : n ≡ 0 → ⊥) (l : sent < end) where
-    pub ordering-broken : follows w c (n - 1) ≡ false → false ≡ inOrder w c last most
-    ordering-broken f = sym (o .same ∙ (order-step w c n left h z (not-delivered l) ∙ rw f))
+    step : (r : Bool) → follows w c (placeBefore at) ≡ r → inOrder w c last most ≡ (r && inOrder w c (n - 1) (left - 1))
+    step r f =
+        let g : follows w c (n - 1) ≡ r = sym (follows-place w c (n - 1) (placeBefore at) (ring-back n at (o .place) z)) ∙ f in
+        o .same ∙ (order-step w c n left h z (not-delivered l) ∙ rw g)
 
-    pub ordering-more : follows w c (n - 1) ≡ true → Ordering w c last most sent (n - 1) (left - 1)
-    ordering-more f =
-        record {
-          sent-is = o .sent-is;
-          small = omega (arith, o .small);
-          same = o .same ∙ (order-step w c n left h z (not-delivered l) ∙ rw f);
-        }
+    pub ordering-broken : follows w c (placeBefore at) ≡ false → false ≡ inOrder w c last most
+    ordering-broken f = sym (step false f)
+
+    pub ordering-more : follows w c (placeBefore at) ≡ true → (to : ℕ) → to ≡ placeBefore at
+        → Ordering w c last most sent (n - 1) to (left - 1)
+    ordering-more f to p = record { sent-is = o .sent-is; place = p ∙ ring-back n at (o .place) z; same = step true f }
 
   pub ordering-end : left ≤ 0 → leb end sent ≡ inOrder w c last most
-  ordering-end h = rw (e, o .sent-is) (sym (o .same ∙ order-end w c n left h))
+  ordering-end h = rw (end-of, o .sent-is) (sym (o .same ∙ order-end w c n left h))
 
 pub sent-delivered : (w : Store) (c h s : ℕ) → h ≡ hopsOf w c → s ≡ sentOf w c (h - 1) → s ≡ deliveredOf w c
 sent-delivered w c h s e f = rw (f, e)

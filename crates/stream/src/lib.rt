@@ -10,7 +10,7 @@ ghost use mathlib.Core.Bool.{true};
 ghost use Prim.Native.Nat.{_+_, _≤_, _<_};
 ghost use lib.Dec.{leb};
 ghost use Rattle.kinds.specs.Ranges.{mostLinks, mostChannels, mostHops, mostC, mostNumber};
-ghost use Rattle.room.specs.Layout.{Long, linksOf, cOf, pOf, hopsOf, routeOf, timeOf};
+ghost use Rattle.room.specs.Layout.{Long, ring, placeBefore, linksOf, cOf, pOf, hopsOf, routeOf, timeOf};
 ghost use Rattle.room.specs.Folds.{every};
 ghost use Rattle.room.specs.Route.{routePasses};
 ghost use Rattle.room.specs.Amounts.{deliveredOf};
@@ -86,38 +86,42 @@ fn places_fit(store: &[u64], c: usize) -> bool
     true
 }
 
-// Whether messages `n` and `n + 1` are at least p apart.
-fn is_apart(store: &[u64], c: usize, n: u64) -> bool
+// Whether the message at place `at` of the ring is at least p after the one at place `before`.
+fn is_apart(store: &[u64], c: usize, before: usize, at: usize) -> bool
     requires { ⌜ Long (now store) ⌝ }
     requires { ⌜ c < mostChannels ⌝ }
-    requires { ⌜ n < mostNumber ⌝ }
-    ensures { λ r. ⌜ r ≡ leb (timeOf (now (store .entry)) c n + pOf (now (store .entry)) c) (timeOf (now (store .entry)) c (n + 1)) ⌝ }
+    requires { ⌜ before < ring ⌝ }
+    requires { ⌜ at < ring ⌝ }
+    ensures { λ r. ⌜ r
+        ≡ leb (timeOf (now (store .entry)) c before + pOf (now (store .entry)) c) (timeOf (now (store .entry)) c at) ⌝ }
 {
     let p = channel::p(store, c);
-    let later = channel::time(store, c, n + 1);
-    later >= p && channel::time(store, c, n) <= later - p
+    let later = channel::time_in(store, c, at);
+    later >= p && channel::time_in(store, c, before) <= later - p
 }
 
-// Whether message `n + 1` has 1 to C packets, and is p after message `n` if that is not delivered. `sent` is what is delivered.
-fn follows(store: &[u64], c: usize, n: u64, sent: u64) -> bool
+// Whether the message at place `at` of the ring has 1 to C packets, and is p after the one before it if that is not delivered.
+// `sent` is what is delivered.
+fn follows(store: &[u64], c: usize, at: usize, sent: u64) -> bool
     requires { ⌜ Long (now store) ⌝ }
     requires { ⌜ c < mostChannels ⌝ }
-    requires { ⌜ n < mostNumber ⌝ }
+    requires { ⌜ at < ring ⌝ }
     requires { ⌜ sent ≡ deliveredOf (now store) c ⌝ }
-    ensures { λ r. ⌜ r ≡ followsIn (now (store .entry)) c n ⌝ }
+    ensures { λ r. ⌜ r ≡ followsIn (now (store .entry)) c (placeBefore at) ⌝ }
 {
-    let before = channel::end(store, c, n);
-    let end = channel::end(store, c, n + 1);
-    if end <= before {
+    let before = channel::place_before(at);
+    let start = channel::end_in(store, c, before);
+    let end = channel::end_in(store, c, at);
+    if end <= start {
         return false;
     }
-    if end - before > channel::c(store, c) {
+    if end - start > channel::c(store, c) {
         return false;
     }
-    if before <= sent {
+    if start <= sent {
         return true;
     }
-    is_apart(store, c, n)
+    is_apart(store, c, before, at)
 }
 
 // Whether messages are in order, from message `last` back to one that is delivered: those that are not are among the `most`
@@ -132,21 +136,24 @@ pub fn in_order(store: &[u64], c: usize, last: u64, most: u64) -> bool
 {
     let sent = channel::sent(store, c, channel::hops(store, c) - 1);
     let mut n = last;
+    // the place of message `n` in the ring
+    let mut at = channel::ring_place(last);
     let mut left = most;
     while left > 0 {
-        if channel::end(store, c, n) <= sent {
+        if channel::end_in(store, c, at) <= sent {
             return true;
         }
         if n == 0 {
             return false;
         }
-        if !follows(store, c, n - 1, sent) {
+        if !follows(store, c, at, sent) {
             return false;
         }
         n -= 1;
+        at = channel::place_before(at);
         left -= 1;
     }
-    channel::end(store, c, n) <= sent
+    channel::end_in(store, c, at) <= sent
 }
 
 // Whether a channel's messages are in order, and their numbers not too large.

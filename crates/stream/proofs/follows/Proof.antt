@@ -1,23 +1,48 @@
 -- `stream::follows` meets its contract: test by test. Assumes nothing.
-use Rattle.stream.proofs.Laws.{follows-empty, follows-long, follows-delivered, follows-apart}
+use Prim.Native.Nat.{ℕ, _+_}
+use mathlib.Core.Path.{_≡_}
+use Rattle.room.specs.Layout.{Store, endOf, placeBefore}
+use Rattle.stream.proofs.Laws.{follows-empty, follows-long, follows-delivered, follows-apart, start-is, end-is, apart-is}
 use borrow.Author.Needs.{needs}
 use Rattle.stream.proofs.follows.Statement.{statement}
 use Rattle.stream.proofs.follows.Tie as tie
 
-end-requires : tie.Need-end-requires
-end-requires c κs = search needs
+abbrev start : tie.After-end-in2 → tie.Start
+start e = e .before .before .before .before
 
-add-end : tie.Need-add-end
-add-end c = search needs
+abbrev w : tie.After-end-in2 → Store
+w e = start e .args .store .now
 
-end-requires-2 : tie.Need-end-requires-2
-end-requires-2 c κs = search needs
+abbrev channel : tie.After-end-in2 → ℕ
+channel e = start e .args .c
+
+-- the message before the one at `at`, and the ends that were read
+abbrev n : tie.After-end-in2 → ℕ
+n e = placeBefore (start e .args .at)
+
+first : (e : tie.After-end-in2) → e .before .end-in .result ≡ endOf (w e) (channel e) (n e)
+first e =
+    let b = e .before in
+    start-is (w e) (channel e) _ _ (start e .pre .1 .1 .0) (b .before .place-before .ensures .0) _ (b .end-in .ensures)
+
+second : (e : tie.After-end-in2) → e .end-in2 .result ≡ endOf (w e) (channel e) (n e + 1)
+second e =
+    let b = e .before in
+    end-is (w e) (channel e) _ _ (start e .pre .1 .1 .0) (b .before .place-before .ensures .0) _ (e .end-in2 .ensures)
+
+place-before-requires : tie.Need-place-before-requires
+place-before-requires c κs = search needs
+
+end-in-requires : tie.Need-end-in-requires
+end-in-requires c κs = search needs
+
+end-in-requires-2 : tie.Need-end-in-requires-2
+end-in-requires-2 c κs = search needs
 
 returns : tie.Need-returns
 returns c =
-    let s = c .before .before .before .before in
-    follows-empty (s .args .store .now) (s .args .c) _ _ _ (c .before .before .end .ensures) (c .before .end2 .ensures)
-    (c .if1 .taken)
+    let e = c .before in
+    follows-empty (w e) (channel e) (n e) _ _ (first e) (second e) (c .if1 .taken)
 
 sub-if2 : tie.Need-sub-if2
 sub-if2 c = search needs
@@ -27,41 +52,39 @@ c-requires c κs = search needs
 
 returns-2 : tie.Need-returns-2
 returns-2 c =
-    let s = c .before .before .before .before .before .before in
     let i = c .before .before in
     let e = i .before in
-    follows-long (s .args .store .now) (s .args .c) _ _ _ (e .before .end .ensures) (e .end2 .ensures) _ (c .before .c .ensures)
-    (i .if1 .left) (c .if2 .taken)
+    follows-long (w e) (channel e) (n e) _ _ (first e) (second e) _ (c .before .c .ensures) (i .if1 .left) (c .if2 .taken)
 
 returns-3 : tie.Need-returns-3
 returns-3 c =
-    let s = c .before .before .before .before .before .before .before in
     let k = c .before .before in
     let i = k .before in
     let e = i .before in
-    follows-delivered (s .args .store .now) (s .args .c) _ _ _ (e .before .end .ensures) (e .end2 .ensures) _ _ (k .c .ensures)
-    (s .pre .1 .1 .1) (i .if1 .left) (c .before .if2 .left) (c .if3 .taken)
+    follows-delivered (w e) (channel e) (n e) _ _ (first e) (second e) _ _ (k .c .ensures) (start e .pre .1 .1 .1) (i .if1 .left)
+    (c .before .if2 .left) (c .if3 .taken)
 
 is-apart-requires : tie.Need-is-apart-requires
 is-apart-requires c κs = search needs
 
 returns-4 : tie.Need-returns-4
 returns-4 c =
-    let s = c .before .before .before .before .before .before .before .before in
     let t = c .before in
     let k = t .before .before in
     let i = k .before in
     let e = i .before in
-    follows-apart (s .args .store .now) (s .args .c) _ _ _ (e .before .end .ensures) (e .end2 .ensures) _ _ (k .c .ensures)
-    (s .pre .1 .1 .1) (i .if1 .left) (t .before .if2 .left) (t .if3 .left) _ (c .is-apart .ensures)
+    let p = e .before .before .place-before .ensures .0 in
+    let r = apart-is (w e) (channel e) _ _ (start e .pre .1 .1 .0) p _ (c .is-apart .ensures) in
+    follows-apart (w e) (channel e) (n e) _ _ (first e) (second e) _ _ (k .c .ensures) (start e .pre .1 .1 .1) (i .if1 .left)
+    (t .before .if2 .left) (t .if3 .left) _ r
 
 pub follows-spec : {M : Type 1} → statement M
 follows-spec =
     tie.close
     (tie.spec
-    end-requires
-    add-end
-    end-requires-2
+    place-before-requires
+    end-in-requires
+    end-in-requires-2
     returns
     sub-if2
     c-requires

@@ -7,23 +7,20 @@ use Rattle.stream.proofs.is_apart.Tie as tie
 p-requires : tie.Need-p-requires
 p-requires c κs = search needs
 
-add-time : tie.Need-add-time
-add-time c = search needs
+time-in-requires : tie.Need-time-in-requires
+time-in-requires c κs = search needs
 
-time-requires : tie.Need-time-requires
-time-requires c κs = search needs
-
-time-requires-2 : tie.Need-time-requires-2
-time-requires-2 c κs = search needs
+time-in-requires-2 : tie.Need-time-in-requires-2
+time-in-requires-2 c κs = search needs
 
 returns : tie.Need-returns
 returns c =
-    rw (← c .time2 .ensures, ← c .before .before .time .ensures, ← c .before .before .before .p .ensures)
+    rw (← c .time-in2 .ensures, ← c .before .before .time-in .ensures, ← c .before .before .before .p .ensures)
     (apart _ _ _ (c .before .if1 .taken))
 
 returns-2 : tie.Need-returns-2
-returns-2 c = rw (← c .before .time .ensures, ← c .before .before .p .ensures) (not-apart _ _ _ (c .if1 .left))
+returns-2 c = rw (← c .before .time-in .ensures, ← c .before .before .p .ensures) (not-apart _ _ _ (c .if1 .left))
 
 pub is-apart-spec : {M : Type 1} → statement M
 is-apart-spec =
-    tie.close (tie.spec p-requires add-time time-requires time-requires-2 returns returns-2)
+    tie.close (tie.spec p-requires time-in-requires time-in-requires-2 returns returns-2)
