@@ -13,14 +13,15 @@ use Rattle.room.specs.Amounts.{enteredOf}
 use Rattle.room.specs.Sound.{soundOf}
 use Rattle.room.specs.Ranged.{Ranged}
 use Rattle.room.proofs.Laws.Folds.{sum-most}
-use Rattle.room.proofs.Laws.Ring.{ring-end, ring-back}
+use Rattle.room.proofs.Laws.Ring.{ring-inside, ring-time, ring-end, ring-back}
 use Rattle.room.proofs.Laws.Sound.{ChannelIs, sound-is, sound-fit, fit-ranged}
 use Rattle.traffic.specs.Head.{messageWith, messageOf, logicalOf, isHeld}
 use Rattle.traffic.proofs.Laws.Head.{message-is}
+use Rattle.packet.specs.declared.Found.{Found}
 
 -- One step back: message n, with `left` more that may be looked at.
 module _ (w : Store) (c x : ℕ) where
-  pub message-none : (n left : ℕ) → 0 < left → n ≡ 0 → messageWith w c x n left ≡ 0
+  pub message-none : (n left : ℕ) → 0 < left → n ≡ 0 → messageWith w c x n left ≡ n
   unfolding messageWith
   message-none n zero h z = absurd (omega arith)
   message-none zero (suc left) h z = refl
@@ -52,6 +53,15 @@ module _ (w : Store) (c x : ℕ) where
 pub record Looking (w : Store) (c j x n at left : ℕ) : Type 0 where
   pub place : at ≡ n % ring
   pub same : messageOf w c j ≡ messageWith w c x n left
+
+-- what was found, number and place
+pub found-is : (w : Store) (c j x n at left : ℕ) → Looking w c j x n at left → n ≡ messageOf w c j
+    → _≡_ {A = Found} (record { number = n; place = at }) (record { number = messageOf w c j; place = messageOf w c j % ring })
+found-is w c j x n at left o e = rw (o .place, e)
+
+pub found-inside : (w : Store) (c j : ℕ) (found : Found)
+    → found ≡ record { number = messageOf w c j; place = messageOf w c j % ring } → found .place < ring
+found-inside w c j found e = ring-inside (messageOf w c j) (found .place) (rw e)
 
 module _ (w : Store) (c j x n at left : ℕ) (o : Looking w c j x n at left) (z : n ≡ 0 → ⊥) (b : ℕ) (p : b ≡ placeBefore at) where
   place-back : b ≡ (n - 1) % ring
@@ -94,6 +104,8 @@ module _ (w : Store) (e : soundOf w ≡ true) (c j : ℕ) (h : c < channelsOf w)
       omega (arith, message-is k j l i .time-most, offset-most)
 
 -- as it was read
-pub logical-is : (w : Store) (c j n t o : ℕ) → n ≡ messageOf w c j → t ≡ timeOf w c n → o ≡ sumTo (delayOf w c) j
-    → t + o ≡ logicalOf w c j
-logical-is w c j n t o a b d = rw (b, a, d)
+pub logical-is : (w : Store) (c j : ℕ) (found : Found) (t o : ℕ)
+    → found ≡ record { number = messageOf w c j; place = messageOf w c j % ring } → t ≡ timeOf w c (found .place)
+    → o ≡ sumTo (delayOf w c) j → t + o ≡ logicalOf w c j
+logical-is w c j found t o a b d =
+    rw (b, d, ring-time (messageOf w c j) (found .place) (rw a) w c)

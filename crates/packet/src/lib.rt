@@ -2,39 +2,57 @@
 use room::channel;
 ghost use mathlib.Core.Path.{_≡_};
 ghost use mathlib.Core.Bool.{true};
-ghost use Prim.Native.Nat.{_<_};
+ghost use Prim.Native.Nat.{_%_, _<_};
 ghost use Rattle.kinds.specs.Ranges.{mostChannels, mostHops};
-ghost use Rattle.room.specs.Layout.{Long, channelsOf, hopsOf, delayOf};
+ghost use Rattle.room.specs.Layout.{Long, ring, channelsOf, hopsOf, delayOf};
 ghost use Rattle.room.specs.Folds.{sumTo};
 ghost use Rattle.room.specs.Sound.{soundOf};
 ghost use Rattle.room.specs.Ranged.{Ranged};
 ghost use Rattle.traffic.specs.Head.{messageOf, logicalOf, isHeld};
 
-// The message, counted from 1, that goes next at place `j` of a channel's route.
+// A message that was looked for: its number, counted from 1, and its place in the ring.
+struct Found {
+    number: u64,
+    place: usize,
+}
+
+// The message that goes next at place `j` of a channel's route.
+fn next(store: &[u64], c: usize, j: usize) -> Found
+    requires { ⌜ Long (now store) ⌝ }
+    requires { ⌜ c < mostChannels ⌝ }
+    requires { ⌜ j < mostHops ⌝ }
+    ensures { λ r. ⌜ r ≡ record { number = messageOf (now (store .entry)) c j; place = messageOf (now (store .entry)) c j % ring } ⌝ }
+{
+    let sent = channel::sent(store, c, j);
+    let mut n = channel::messages(store, c);
+    let mut at = channel::ring_place(n);
+    let mut left = room::UNDELIVERED;
+    while left > 0 {
+        if n == 0 {
+            break;
+        }
+        let before = channel::place_before(at);
+        if channel::end_in(store, c, before) <= sent {
+            break;
+        }
+        n -= 1;
+        at = before;
+        left -= 1;
+    }
+    Found {
+        number: n,
+        place: at,
+    }
+}
+
+// Its number, counted from 1.
 pub fn message(store: &[u64], c: usize, j: usize) -> u64
     requires { ⌜ Long (now store) ⌝ }
     requires { ⌜ c < mostChannels ⌝ }
     requires { ⌜ j < mostHops ⌝ }
     ensures { λ r. ⌜ r ≡ messageOf (now (store .entry)) c j ⌝ }
 {
-    let sent = channel::sent(store, c, j);
-    let mut n = channel::messages(store, c);
-    // the place of message `n` in the ring
-    let mut at = channel::ring_place(n);
-    let mut left = room::UNDELIVERED;
-    while left > 0 {
-        if n == 0 {
-            return 0;
-        }
-        let before = channel::place_before(at);
-        if channel::end_in(store, c, before) <= sent {
-            return n;
-        }
-        n -= 1;
-        at = before;
-        left -= 1;
-    }
-    n
+    next(store, c, j).number
 }
 
 // The delays of a channel before place `j` of its route.
@@ -60,6 +78,6 @@ pub fn logical(store: &[u64], c: usize, j: usize) -> u64
     requires { ⌜ isHeld (now store) c j ≡ true ⌝ }
     ensures { λ r. ⌜ r ≡ logicalOf (now (store .entry)) c j ⌝ }
 {
-    let n = message(store, c, j);
-    channel::time(store, c, n) + offset(store, c, j)
+    let found = next(store, c, j);
+    channel::time_in(store, c, found.place) + offset(store, c, j)
 }

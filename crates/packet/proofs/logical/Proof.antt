@@ -3,7 +3,7 @@ use Prim.Native.Nat.{_+_}
 use mathlib.Core.Path.{_≡_}
 use native.Mathlib.Omega.{arith}
 use Rattle.traffic.specs.Head.{logicalOf}
-use Rattle.packet.proofs.Laws.{place-ready, place-ranged, logical-is, logical-most}
+use Rattle.packet.proofs.Laws.{place-ready, place-ranged, found-inside, logical-is, logical-most}
 use Rattle.packet.proofs.logical.Statement.{statement}
 use Rattle.packet.proofs.logical.Tie as tie
 
@@ -11,20 +11,20 @@ abbrev start : tie.After-offset → tie.Start
 start c = c .before .before .before .before
 
 sum-is : (c : tie.After-offset)
-    → c .before .time .result + c .offset .result ≡ logicalOf (start c .args .store .now) (start c .args .c) (start c .args .j)
+    → c .before .time-in .result + c .offset .result ≡ logicalOf (start c .args .store .now) (start c .args .c) (start c .args .j)
 sum-is c =
-    logical-is _ _ _ _ _ _ (c .before .before .message .ensures) (c .before .time .ensures) (c .offset .ensures)
+    logical-is _ _ _ _ _ _ (c .before .before .next .ensures) (c .before .time-in .ensures) (c .offset .ensures)
 
-message-requires : tie.Need-message-requires
-message-requires c κs =
+next-requires : tie.Need-next-requires
+next-requires c κs =
     let (e, (h, (l, f))) = c .before .pre in
     place-ready _ e _ _ h l
 
-time-requires : tie.Need-time-requires
-time-requires c κs =
+time-in-requires : tie.Need-time-in-requires
+time-in-requires c κs =
     let (e, (h, (l, f))) = c .before .before .pre in
     let r = place-ranged _ e _ _ h l in
-    (r .long, r .channel)
+    (r .long, (r .channel, found-inside _ _ _ _ (c .next .ensures)))
 
 offset-requires : tie.Need-offset-requires
 offset-requires c κs =
@@ -41,4 +41,4 @@ returns c = sum-is c
 
 pub logical-spec : {M : Type 1} → statement M
 logical-spec =
-    tie.close (tie.spec message-requires time-requires offset-requires add-result returns)
+    tie.close (tie.spec next-requires time-in-requires offset-requires add-result returns)
