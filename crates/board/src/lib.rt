@@ -151,7 +151,12 @@ pub extern "C" fn byanghosu_offer(
 // Runs a slot and returns the number of its sends, which stand at the front of `out`, five numbers each; `number` and `place` take
 // those of the refusal, or 0 and 0.
 #[no_mangle]
-pub extern "C" fn byanghosu_slot(store: &mut [u64], out: &mut [u64], number: &mut u64, place: &mut u64) -> usize
+pub extern "C" fn byanghosu_slot(
+    store: &mut [u64],
+    out: &mut [u64],
+    number: &mut u64,
+    place: &mut u64,
+) -> usize
     ensures { λ r. ⌜ r ≡ length (slotSent (now (store .entry)) (length (now (out .entry)))) ⌝ }
     ensures { λ _. ⌜ now (store .exit) ≡ slotStore (now (store .entry)) (length (now (out .entry))) ⌝ }
     ensures { λ _. ⌜ now (out .exit) ≡ slotOut (now (store .entry)) (now (out .entry)) ⌝ }

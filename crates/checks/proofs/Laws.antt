@@ -26,6 +26,12 @@ one-more [] (suc k) e h t = absurd (let n : _≡_ {A = ℕ} 0 1 = cc in omega ar
 one-more {x} (y ∷ checks) zero e h t = (let s : y ≡ x = cc in rw s t, tt)
 one-more (y ∷ checks) (suc k) e h t = (h .0, one-more checks k e (h .1) t)
 
+-- P holds of the number and the place of each
+module _ (P : (number place : ℕ) → Type 0) where
+  abbrev pub Each : List Check → Type 0
+  Each [] = Unit {0}
+  Each (x ∷ rest) = P (x .number) (x .place) × Each rest
+
 -- a refusal number that no check of the list can give
 abbrev pub Clear : (number : ℕ) → List Check → Type 0
 Clear number [] = Unit {0}
@@ -97,6 +103,21 @@ module _ {A : Type 0} (refused : (number place : ℕ) → A) where
           → firstFailed refused (z ∷ rest) passed ≡ refused n at
       go true h r = rw (h, firstFailed) (r (rw (h, firstFailed) at e))
       go false h r = rw (h, firstFailed) (rw (h, firstFailed) at e)
+
+  -- a refusal is that of one of the checks
+  pub refused-one : (P : (number place : ℕ) → Type 0) → ((m n i at : ℕ) → refused m i ≡ refused n at → (m ≡ n) × (i ≡ at))
+      → (checks : List Check) (passed : A) (number place : ℕ) → Each P checks → (refused number place ≡ passed → ⊥)
+      → firstFailed refused checks passed ≡ refused number place → P number place
+  unfolding firstFailed
+  refused-one P same [] passed number place r apart e = absurd (apart (sym e))
+  refused-one P same (x ∷ rest) passed number place r apart e =
+      go (x .holds) refl (refused-one P same rest passed number place (r .1) apart)
+    where
+      go : (t : Bool) → x .holds ≡ t → (firstFailed refused rest passed ≡ refused number place → P number place) → P number place
+      go true h k = k (rw (h, firstFailed) at e)
+      go false h k =
+          let s = same (x .number) number (x .place) place (rw (h, firstFailed) at e) in
+          rw (s .0, s .1) at (r .0)
 
   -- a number that no check gives comes from what was to be answered
   pub clear-passed : ((m n i at : ℕ) → refused m i ≡ refused n at → m ≡ n) → (number place : ℕ) (checks : List Check) (passed : A)

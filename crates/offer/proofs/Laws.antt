@@ -1,15 +1,13 @@
 -- What the answer to an offer says, for the crates above. Assumes nothing.
 use Prim.Native.Nat.{ℕ}
 use mathlib.Core.Path.{_≡_, refl}
-use mathlib.Core.Bool.{Bool, true, false}
-use mathlib.Core.List.{List, [], _∷_}
+use mathlib.Core.Bool.{true}
 use mathlib.Core.Logic.{_⊎_, inl, inr}
 use native.Mathlib.Omega.{arith}
 use lib.ListN.{take, drop}
 use Rattle.room.specs.Layout.{Store, messagesOf}
 use Rattle.room.specs.Sound.{soundOf}
-use Rattle.checks.specs.Checks.{Check, firstFailed}
-use Rattle.checks.proofs.Laws.{AllHold, accepted-all, hold-append}
+use Rattle.checks.proofs.Laws.{AllHold, accepted-all, refused-one, hold-append}
 use Rattle.traffic.specs.declared.Offered.the-variants.{Accepted, Refused}
 use Rattle.traffic.specs.Offer.{offerTime, offered, offerChecks, offerAnswer, offerStore}
 use Rattle.offer.proofs.Outcome.{Passed, passed-is, answer-accepted, store-refused, store-accepted}
@@ -18,26 +16,6 @@ use Rattle.offer.proofs.Outcome.{Passed, passed-is, answer-accepted, st
 abbrev pub Refusal : (number place : ℕ) → Type 0
 Refusal number place =
     ((number ≡ 17) ⊎ ((number ≡ 14) ⊎ ((number ≡ 11) ⊎ ((number ≡ 12) ⊎ (number ≡ 13))))) × (place ≡ 0)
-
--- each check of a list refuses with such a number and place
-abbrev Refusals : List Check → Type 0
-Refusals [] = Unit {0}
-Refusals (x ∷ rest) = Refusal (x .number) (x .place) × Refusals rest
-
-failed-one : (checks : List Check) (n time number place : ℕ) → Refusals checks
-    → firstFailed Refused checks (Accepted n time) ≡ Refused number place → Refusal number place
-unfolding firstFailed
-failed-one [] n time number place r e = absurd (let z : _≡_ {A = ℕ} 0 1 = cc in omega arith)
-failed-one (x ∷ rest) n time number place r e = go (x .holds) refl (failed-one rest n time number place (r .1))
-  where
-    go : (t : Bool) → x .holds ≡ t → (firstFailed Refused rest (Accepted n time) ≡ Refused number place → Refusal number place)
-        → Refusal number place
-    go true h k = k (rw (h, firstFailed) at e)
-    go false h k =
-        let f : Refused (x .number) (x .place) ≡ Refused number place = rw (h, firstFailed) at e in
-        let a : x .number ≡ number = cc in
-        let b : x .place ≡ place = cc in
-        rw (a, b) at (r .0)
 
 module _ (w : Store) (c packets : ℕ) where
   -- What an accepted offer stands on, and the store that it leaves.
@@ -73,7 +51,8 @@ module _ (w : Store) (c packets : ℕ) where
         let at-11 : Refusal 11 0 = (inr (inr (inl refl)), refl) in
         let at-12 : Refusal 12 0 = (inr (inr (inr (inl refl))), refl) in
         let at-13 : Refusal 13 0 = (inr (inr (inr (inr refl))), refl) in
-        failed-one (offerChecks w c packets) _ _ number place (at-17, (at-14, (at-11, (at-12, (at-13, (at-17, tt)))))) r
+        refused-one Refused Refusal (λ m n i at e. ((cc), (cc))) (offerChecks w c packets) _ number place
+        (at-17, (at-14, (at-11, (at-12, (at-13, (at-17, tt)))))) (λ e. let z : _≡_ {A = ℕ} 0 1 = cc in omega arith) r
 
     pub refused-store : offerStore w c packets ≡ w
     refused-store = store-refused w c packets r

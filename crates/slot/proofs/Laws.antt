@@ -1,18 +1,17 @@
 -- What a slot says of the store and the output that it leaves, for the crates above. Assumes nothing.
 use Prim.Native.Nat.{ℕ, _*_, _≤_, _<_}
-use mathlib.Core.Path.{_≡_, refl, sym, _∙_}
-use mathlib.Core.Bool.{Bool, true, false}
+use mathlib.Core.Path.{_≡_, refl, sym}
+use mathlib.Core.Bool.{true}
 use mathlib.Core.List.{List, []}
 use mathlib.Core.Logic.{_⊎_, inl, inr}
 use native.Mathlib.Omega.{arith}
-use lib.Dec.{leb, ltb}
 use lib.ListN.{length, take}
 use lib.Seq.{take-at}
 use borrow.Author.Tests.{leb-true, ltb-true}
 use Rattle.kinds.specs.Ranges.{endSlot}
 use Rattle.room.specs.Layout.{Store, linksOf, clockOf}
 use Rattle.room.specs.Sound.{soundOf}
-use Rattle.checks.proofs.Laws.{AllHold, one-more, all-passed, fails-after, accepted-all}
+use Rattle.checks.proofs.Laws.{AllHold, accepted-all, refused-one}
 use Rattle.traffic.specs.declared.Turn.{Turn}
 use Rattle.traffic.specs.declared.Turn.the-variants.{Ran, Refused}
 use Rattle.traffic.specs.Slot.{Send, numbers, slotSends, moved, slotChecks, slotTurn, slotNumber, slotPlace, slotSent, slotStore}
@@ -55,29 +54,14 @@ module _ (w : Store) (room : ℕ) where
     pub refused-sends : slotSent w room ≡ []
     refused-sends = rw e
 
-    named : (n : ℕ) → Refused n 0 ≡ slotTurn w room → (number ≡ n) × (place ≡ 0)
-    named n f = let g : Refused n 0 ≡ Refused number place = f ∙ e in ((cc), (cc))
-
     pub refused-number : Refusal number place
     unfolding slotTurn
-    refused-number = go-17 (soundOf w) refl
-      where
-        go-last : AllHold (take 3 (slotChecks w room)) → (t : Bool) → soundOf (moved w) ≡ t → Refusal number place
-        go-last h true f =
-            never-ran number place (sym e ∙ all-passed Refused (slotChecks w room) Ran (one-more (slotChecks w room) 3 refl h f))
-        go-last h false f = let k = named 17 (fails-after Refused (slotChecks w room) 3 Ran refl h f) in (inl (k .0), k .1)
-
-        go-15 : AllHold (take 2 (slotChecks w room)) → (t : Bool) → leb (5 * linksOf w) room ≡ t → Refusal number place
-        go-15 h true f = go-last (one-more (slotChecks w room) 2 refl h f) (soundOf (moved w)) refl
-        go-15 h false f = let k = named 15 (fails-after Refused (slotChecks w room) 2 Ran refl h f) in (inr (inr (k .0)), k .1)
-
-        go-14 : AllHold (take 1 (slotChecks w room)) → (t : Bool) → ltb (clockOf w) endSlot ≡ t → Refusal number place
-        go-14 h true f = go-15 (one-more (slotChecks w room) 1 refl h f) (leb (5 * linksOf w) room) refl
-        go-14 h false f = let k = named 14 (fails-after Refused (slotChecks w room) 1 Ran refl h f) in (inr (inl (k .0)), k .1)
-
-        go-17 : (t : Bool) → soundOf w ≡ t → Refusal number place
-        go-17 true f = go-14 (one-more (slotChecks w room) 0 refl tt f) (ltb (clockOf w) endSlot) refl
-        go-17 false f = let k = named 17 (fails-after Refused (slotChecks w room) 0 Ran refl tt f) in (inl (k .0), k .1)
+    refused-number =
+        let at-17 : Refusal 17 0 = (inl refl, refl) in
+        let at-14 : Refusal 14 0 = (inr (inl refl), refl) in
+        let at-15 : Refusal 15 0 = (inr (inr refl), refl) in
+        refused-one Refused Refusal (λ m n i at f. ((cc), (cc))) (slotChecks w room) Ran number place
+        (at-17, (at-14, (at-15, (at-17, tt)))) (never-ran number place) e
 
   -- either way the sends have room
   pub sent-fits : 5 * length (slotSent w room) ≤ room
