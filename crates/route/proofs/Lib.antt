@@ -1,2 +1,3 @@
 pub mod Laws
 mod Seen
+mod Walk

@@ -10,7 +10,7 @@ ghost use lib.ListN.{length};
 ghost use Rattle.kinds.specs.Ranges.{mostLinks, mostChannels, mostHops};
 ghost use Rattle.room.specs.Layout.{Long, linksOf, hopsOf, sentOf};
 ghost use Rattle.room.specs.Folds.{every, firstNot};
-ghost use Rattle.room.specs.Route.{from, exists, isNew, joins, Known};
+ghost use Rattle.room.specs.Route.{from, exists, isNew, joins, Known, routePasses};
 ghost use Rattle.room.specs.Amounts.{reservedOf, enteredOf, heldOf};
 ghost use Rattle.room.specs.Ranged.{Ranged};
 
@@ -83,6 +83,34 @@ pub fn parted_link(store: &[u64], numbers: &[u64], at: usize, n: usize) -> usize
         j += 1;
     }
     n
+}
+
+// Whether the first `n` links pass 3, 4 and 5, where it does not matter which one fails: in one pass.
+pub fn passes(store: &[u64], numbers: &[u64], at: usize, n: usize) -> bool
+    requires { ⌜ Long (now store) ⌝ }
+    requires { ⌜ at + n ≤ length (now numbers) ⌝ }
+    requires { ⌜ linksOf (now store) ≤ mostLinks ⌝ }
+    ensures { λ r. ⌜ r ≡ routePasses (now (store .entry)) (from (now (numbers .entry)) at) n ⌝ }
+{
+    let links = head::links(store);
+    // 1 where a link stands at a place before
+    let mut met = [0u64; 16];
+    let mut j: usize = 0;
+    while j < n {
+        let l = numbers[at + j] as usize;
+        if l >= links {
+            return false;
+        }
+        if met[l] == 1 {
+            return false;
+        }
+        met[l] = 1;
+        if !is_joined(store, numbers, at, j) {
+            return false;
+        }
+        j += 1;
+    }
+    true
 }
 
 // The packets reserved for a channel at place `j` of its route.

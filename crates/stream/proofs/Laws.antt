@@ -16,33 +16,15 @@ use Rattle.kinds.specs.declared.Route.{Route}
 use Rattle.kinds.specs.declared.CheckedChannel.the-variants as channel
 use Rattle.kinds.specs.declared.CheckedRoute.the-variants as route
 use Rattle.kinds.proofs.Laws.{within-true, channel-bounds, good-channel, refused-channel, good-route, refused-route}
-use Rattle.room.specs.Layout.{Store, ring, placeBefore, routeStart, routeOf, cOf, pOf, dOf, bOf, hopsOf, messagesOf, delayOf}
+use Rattle.room.specs.Layout.{Store, ring, placeBefore, routeOf, cOf, pOf, dOf, bOf, hopsOf, messagesOf, delayOf}
 use Rattle.room.specs.Layout.{sentOf, timeOf, endOf}
-use Rattle.room.specs.Folds.{every, firstNot}
-use Rattle.room.specs.Route.{from, exists, isNew, joins, routePasses}
+use Rattle.room.specs.Folds.{every}
+use Rattle.room.specs.Route.{routePasses}
 use Rattle.room.specs.Amounts.{acceptedOf, deliveredOf, enteredOf}
 use Rattle.room.specs.Sound.{channelFits, placeFits, delivered, follows, inOrder, messagesFit}
-use Rattle.room.proofs.Laws.Folds.{every-false, Passing, passing-none, passing-more, passing-done, first-less, first-all, first-test}
+use Rattle.room.proofs.Laws.Folds.{every-false, Passing, passing-none, passing-more, passing-done}
 use Rattle.room.proofs.Laws.Amounts.{entered-later}
 use Rattle.room.proofs.Laws.Ring.{ring-after, ring-same, ring-next, ring-time, ring-end, ring-back}
-
--- Checks 3, 4 and 5 of the route that starts at place `at`.
-module _ (w : Store) (c n at : ℕ) (start : at ≡ routeStart c) where
-  pub route-known : (u : ℕ) → u ≡ firstNot (exists w (from w at)) n → n ≤ u → every (exists w (from w at)) n ≡ true
-  route-known u e h = first-all (exists w (from w at)) n u e h
-
-  pub route-unknown : (u : ℕ) → u ≡ firstNot (exists w (from w at)) n → u < n → false ≡ routePasses w (routeOf w c) n
-  route-unknown u e h = rw (rw start at (first-less (exists w (from w at)) n u e h))
-
-  pub route-repeats : (u v : ℕ) → u ≡ firstNot (exists w (from w at)) n → n ≤ u → v ≡ firstNot (isNew (from w at)) n → v < n
-      → false ≡ routePasses w (routeOf w c) n
-  route-repeats u v e h f l =
-      rw (rw start at (first-all (exists w (from w at)) n u e h), rw start at (first-less (isNew (from w at)) n v f l))
-
-  pub route-joins : (u v x : ℕ) → u ≡ firstNot (exists w (from w at)) n → n ≤ u → v ≡ firstNot (isNew (from w at)) n → n ≤ v
-      → x ≡ firstNot (joins w (from w at)) n → leb n x ≡ routePasses w (routeOf w c) n
-  route-joins u v x e h f l g =
-      rw (rw start at (first-all (exists w (from w at)) n u e h), rw start at (first-all (isNew (from w at)) n v f l)) (first-test (joins w (routeOf w c)) n x (rw start at g))
 
 -- A loop over the places of the route: `entered` is what has come to place j.
 pub record Placing (w : Store) (c hops p entered j : ℕ) : Type 0 where

@@ -24,14 +24,7 @@ fn route_passes(store: &[u64], c: usize, n: usize) -> bool
     requires { ⌜ n ≤ mostHops ⌝ }
     ensures { λ r. ⌜ r ≡ routePasses (now (store .entry)) (routeOf (now (store .entry)) c) n ⌝ }
 {
-    let at = channel::route_start(c);
-    if route::unknown_link(store, store, at, n) < n {
-        return false;
-    }
-    if route::repeated_link(store, at, n) < n {
-        return false;
-    }
-    route::parted_link(store, store, at, n) >= n
+    route::passes(store, store, channel::route_start(c), n)
 }
 
 // Checks 1 to 5.

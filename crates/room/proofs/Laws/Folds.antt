@@ -4,8 +4,6 @@ use mathlib.Core.Path.{_≡_, refl, sym}
 use mathlib.Core.Bool.{Bool, true, false, _&&_, _||_, and-eq-true-iff}
 use native.Mathlib.Numerals.{add-one}
 use native.Mathlib.Omega.{arith}
-use lib.Dec.{leb}
-use borrow.Author.Tests.{le-leb, lt-leb}
 use Rattle.room.specs.Folds.{every, some, firstNot, sumTo}
 
 -- a number below suc n is below n, or it is n
@@ -15,7 +13,7 @@ below zero (suc n) h l s = l (omega arith)
 below (suc i) zero h l s = absurd (omega arith)
 below (suc i) (suc n) h l s = below i n (omega arith) (λ k. l (omega arith)) (λ e. s (rw e))
 
-and-false : (a b : Bool) → b ≡ false → (a && b) ≡ false
+pub and-false : (a b : Bool) → b ≡ false → (a && b) ≡ false
 and-false true b e = e
 and-false false b e = refl
 
@@ -114,13 +112,6 @@ module _ (f : ℕ → Bool) where
       go : (t : Bool) → every f n ≡ t → every f n ≡ true
       go true a = a
       go false a = absurd (omega (arith, first-below n a))
-
-  pub first-test : (n u : ℕ) → u ≡ firstNot f n → leb n u ≡ every f n
-  first-test n u e = go (every f n) refl
-    where
-      go : (t : Bool) → every f n ≡ t → leb n u ≡ every f n
-      go true a = rw a (le-leb n u (omega (arith, first-end n a)))
-      go false a = rw a (lt-leb n u (omega (arith, first-below n a)))
 
   pub first-is : (n : ℕ) → First f n (firstNot f n)
   unfolding every firstNot
