@@ -24,7 +24,7 @@ use Rattle.room.specs.Amounts.{acceptedOf, deliveredOf, enteredOf}
 use Rattle.room.specs.Sound.{channelFits, placeFits, delivered, follows, inOrder, messagesFit}
 use Rattle.room.proofs.Laws.Folds.{every-false, Passing, passing-none, passing-more, passing-done}
 use Rattle.room.proofs.Laws.Amounts.{entered-later}
-use Rattle.room.proofs.Laws.Ring.{ring-after, ring-same, ring-next, ring-time, ring-end, ring-back}
+use Rattle.room.proofs.Laws.Ring.{ring-same, ring-next, ring-time, ring-end, ring-back}
 
 -- A loop over the places of the route: `entered` is what has come to place j.
 pub record Placing (w : Store) (c hops p entered j : ℕ) : Type 0 where
@@ -120,17 +120,14 @@ module _ (w : Store) (c n start end : ℕ) (b : start ≡ endOf w c n) (e : end 
         let m : deliveredOf w c < endOf w c n = rw (d, b) at a in
         rw (sizes k q h l, lt-leb (endOf w c n) (deliveredOf w c) m) s
 
--- The same as read in the ring: the message at place `at` after the one at place `before`.
-module _ (w : Store) (c at before : ℕ) (inside : at < ring) (p : before ≡ placeBefore at) where
-  pub start-is : (start : ℕ) → start ≡ endOf w c before → start ≡ endOf w c (placeBefore at)
-  start-is start e = rw p at e
+-- The later one as it is read in the ring, at its place.
+module _ (w : Store) (c n at : ℕ) (p : at ≡ (n + 1) % ring) where
+  pub end-is : (end : ℕ) → end ≡ endOf w c at → end ≡ endOf w c (n + 1)
+  end-is end e = e ∙ ring-end (n + 1) at p w c
 
-  pub end-is : (end : ℕ) → end ≡ endOf w c at → end ≡ endOf w c (placeBefore at + 1)
-  end-is end e = e ∙ ring-end (placeBefore at + 1) at (ring-after at inside) w c
-
-  pub apart-is : (r : Bool) → r ≡ leb (timeOf w c before + pOf w c) (timeOf w c at)
-      → r ≡ leb (timeOf w c (placeBefore at) + pOf w c) (timeOf w c (placeBefore at + 1))
-  apart-is r e = rw (p, ring-time (placeBefore at + 1) at (ring-after at inside) w c) at e
+  pub apart-is : (r : Bool) → r ≡ leb (timeOf w c n + pOf w c) (timeOf w c at)
+      → r ≡ leb (timeOf w c n + pOf w c) (timeOf w c (n + 1))
+  apart-is r e = rw (ring-time (n + 1) at p w c) at e
 
 -- a message's place in the ring tells as much
 follows-place : (w : Store) (c n at : ℕ) → at ≡ n % ring → follows w c at ≡ follows w c n
@@ -171,7 +168,8 @@ pub record Ordering (w : Store) (c last most sent n at left : ℕ) : Type 0 wher
   pub place : at ≡ n % ring
   pub same : inOrder w c last most ≡ inOrder w c n left
 
-module _ (w : Store) (c last most sent n at left end : ℕ) (o : Ordering w c last most sent n at left) (e : end ≡ endOf w c at) where
+module _ (w : Store) (c last most sent n at left end : ℕ) (o : Ordering w c last most sent n at left)
+    (e : end ≡ endOf w c at) where
   end-of : end ≡ endOf w c n
   end-of = e ∙ ring-end n at (o .place) w c
 
@@ -191,18 +189,20 @@ module _ (w : Store) (c last most sent n at left end : ℕ) (o : Ordering w c la
   pub ordering-lost : 0 < left → n ≡ 0 → sent < end → false ≡ inOrder w c last most
   ordering-lost h z l = sym (o .same ∙ order-lost w c n left h z (not-delivered l))
 
-  module _ (h : 0 < left) (z : n ≡ 0 → ⊥) (l : sent < end) where
-    step : (r : Bool) → follows w c (placeBefore at) ≡ r → inOrder w c last most ≡ (r && inOrder w c (n - 1) (left - 1))
+  module _ (h : 0 < left) (z : n ≡ 0 → ⊥) (l : sent < end) (before : ℕ) (p : before ≡ placeBefore at) where
+    place-back : before ≡ (n - 1) % ring
+    place-back = p ∙ ring-back n at (o .place) z
+
+    step : (r : Bool) → follows w c before ≡ r → inOrder w c last most ≡ (r && inOrder w c (n - 1) (left - 1))
     step r f =
-        let g : follows w c (n - 1) ≡ r = sym (follows-place w c (n - 1) (placeBefore at) (ring-back n at (o .place) z)) ∙ f in
+        let g : follows w c (n - 1) ≡ r = sym (follows-place w c (n - 1) before place-back) ∙ f in
         o .same ∙ (order-step w c n left h z (not-delivered l) ∙ rw g)
 
-    pub ordering-broken : follows w c (placeBefore at) ≡ false → false ≡ inOrder w c last most
+    pub ordering-broken : follows w c before ≡ false → false ≡ inOrder w c last most
     ordering-broken f = sym (step false f)
 
-    pub ordering-more : follows w c (placeBefore at) ≡ true → (to : ℕ) → to ≡ placeBefore at
-        → Ordering w c last most sent (n - 1) to (left - 1)
-    ordering-more f to p = record { sent-is = o .sent-is; place = p ∙ ring-back n at (o .place) z; same = step true f }
+    pub ordering-more : follows w c before ≡ true → Ordering w c last most sent (n - 1) before (left - 1)
+    ordering-more f = record { sent-is = o .sent-is; place = place-back; same = step true f }
 
   pub ordering-end : left ≤ 0 → leb end sent ≡ inOrder w c last most
   ordering-end h = rw (end-of, o .sent-is) (sym (o .same ∙ order-end w c n left h))

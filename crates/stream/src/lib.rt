@@ -7,10 +7,10 @@ use kinds::Slot;
 use room::channel;
 ghost use mathlib.Core.Path.{_≡_};
 ghost use mathlib.Core.Bool.{true};
-ghost use Prim.Native.Nat.{_+_, _≤_, _<_};
+ghost use Prim.Native.Nat.{_+_, _%_, _≤_, _<_};
 ghost use lib.Dec.{leb};
 ghost use Rattle.kinds.specs.Ranges.{mostLinks, mostChannels, mostHops, mostC, mostNumber};
-ghost use Rattle.room.specs.Layout.{Long, ring, placeBefore, linksOf, cOf, pOf, hopsOf, routeOf, timeOf};
+ghost use Rattle.room.specs.Layout.{Long, ring, linksOf, cOf, pOf, hopsOf, routeOf, timeOf};
 ghost use Rattle.room.specs.Folds.{every};
 ghost use Rattle.room.specs.Route.{routePasses};
 ghost use Rattle.room.specs.Amounts.{deliveredOf};
@@ -93,16 +93,16 @@ fn is_apart(store: &[u64], c: usize, before: usize, at: usize) -> bool
     later >= p && channel::time_in(store, c, before) <= later - p
 }
 
-// Whether the message at place `at` of the ring has 1 to C packets, and is p after the one before it if that is not delivered.
-// `sent` is what is delivered.
-fn follows(store: &[u64], c: usize, at: usize, sent: u64) -> bool
+// Whether the message at place `at` of the ring has 1 to C packets, and is p after the one before it, at place `before`, if that
+// is not delivered. `sent` is what is delivered.
+fn follows(store: &[u64], c: usize, before: usize, at: usize, sent: u64) -> bool
     requires { ⌜ Long (now store) ⌝ }
     requires { ⌜ c < mostChannels ⌝ }
-    requires { ⌜ at < ring ⌝ }
+    requires { ⌜ before < ring ⌝ }
+    requires { ⌜ at ≡ (before + 1) % ring ⌝ }
     requires { ⌜ sent ≡ deliveredOf (now store) c ⌝ }
-    ensures { λ r. ⌜ r ≡ followsIn (now (store .entry)) c (placeBefore at) ⌝ }
+    ensures { λ r. ⌜ r ≡ followsIn (now (store .entry)) c before ⌝ }
 {
-    let before = channel::place_before(at);
     let start = channel::end_in(store, c, before);
     let end = channel::end_in(store, c, at);
     if end <= start {
@@ -139,11 +139,12 @@ pub fn in_order(store: &[u64], c: usize, last: u64, most: u64) -> bool
         if n == 0 {
             return false;
         }
-        if !follows(store, c, at, sent) {
+        let before = channel::place_before(at);
+        if !follows(store, c, before, at, sent) {
             return false;
         }
         n -= 1;
-        at = channel::place_before(at);
+        at = before;
         left -= 1;
     }
     channel::end_in(store, c, at) <= sent

@@ -16,10 +16,10 @@ before-later zero h = absurd (h refl)
 before-later (suc at) h = omega arith
 
 -- and back again
-pub ring-after : (at : ℕ) → at < ring → at ≡ (placeBefore at + 1) % ring
+pub ring-after : (at b : ℕ) → at < ring → b ≡ placeBefore at → at ≡ (b + 1) % ring
 unfolding placeBefore
-ring-after zero h = refl
-ring-after (suc at) h = omega arith
+ring-after zero b h e = omega arith
+ring-after (suc at) b h e = omega arith
 
 -- message n stands at place `at`: by its place it is read as by its number, and so is the one after it
 module _ (n at : ℕ) (e : at ≡ n % ring) where

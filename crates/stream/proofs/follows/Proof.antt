@@ -1,14 +1,14 @@
 -- `stream::follows` meets its contract: test by test. Assumes nothing.
 use Prim.Native.Nat.{ℕ, _+_}
 use mathlib.Core.Path.{_≡_}
-use Rattle.room.specs.Layout.{Store, endOf, placeBefore}
-use Rattle.stream.proofs.Laws.{follows-empty, follows-long, follows-delivered, follows-apart, start-is, end-is, apart-is}
+use Rattle.room.specs.Layout.{Store, endOf}
+use Rattle.stream.proofs.Laws.{follows-empty, follows-long, follows-delivered, follows-apart, end-is, apart-is}
 use borrow.Author.Needs.{needs}
 use Rattle.stream.proofs.follows.Statement.{statement}
 use Rattle.stream.proofs.follows.Tie as tie
 
 abbrev start : tie.After-end-in2 → tie.Start
-start e = e .before .before .before .before
+start e = e .before .before .before
 
 abbrev w : tie.After-end-in2 → Store
 w e = start e .args .store .now
@@ -16,22 +16,12 @@ w e = start e .args .store .now
 abbrev channel : tie.After-end-in2 → ℕ
 channel e = start e .args .c
 
--- the message before the one at `at`, and the ends that were read
+-- the message at `before`, by its place, and where the one after it ends
 abbrev n : tie.After-end-in2 → ℕ
-n e = placeBefore (start e .args .at)
+n e = start e .args .before
 
-first : (e : tie.After-end-in2) → e .before .end-in .result ≡ endOf (w e) (channel e) (n e)
-first e =
-    let b = e .before in
-    start-is (w e) (channel e) _ _ (start e .pre .1 .1 .0) (b .before .place-before .ensures .0) _ (b .end-in .ensures)
-
-second : (e : tie.After-end-in2) → e .end-in2 .result ≡ endOf (w e) (channel e) (n e + 1)
-second e =
-    let b = e .before in
-    end-is (w e) (channel e) _ _ (start e .pre .1 .1 .0) (b .before .place-before .ensures .0) _ (e .end-in2 .ensures)
-
-place-before-requires : tie.Need-place-before-requires
-place-before-requires c κs = search needs
+end : (e : tie.After-end-in2) → e .end-in2 .result ≡ endOf (w e) (channel e) (n e + 1)
+end e = end-is (w e) (channel e) (n e) _ (start e .pre .1 .1 .1 .0) _ (e .end-in2 .ensures)
 
 end-in-requires : tie.Need-end-in-requires
 end-in-requires c κs = search needs
@@ -42,7 +32,7 @@ end-in-requires-2 c κs = search needs
 returns : tie.Need-returns
 returns c =
     let e = c .before in
-    follows-empty (w e) (channel e) (n e) _ _ (first e) (second e) (c .if1 .taken)
+    follows-empty (w e) (channel e) (n e) _ _ (e .before .end-in .ensures) (end e) (c .if1 .taken)
 
 sub-if2 : tie.Need-sub-if2
 sub-if2 c = search needs
@@ -54,15 +44,16 @@ returns-2 : tie.Need-returns-2
 returns-2 c =
     let i = c .before .before in
     let e = i .before in
-    follows-long (w e) (channel e) (n e) _ _ (first e) (second e) _ (c .before .c .ensures) (i .if1 .left) (c .if2 .taken)
+    follows-long (w e) (channel e) (n e) _ _ (e .before .end-in .ensures) (end e) _ (c .before .c .ensures) (i .if1 .left)
+    (c .if2 .taken)
 
 returns-3 : tie.Need-returns-3
 returns-3 c =
     let k = c .before .before in
     let i = k .before in
     let e = i .before in
-    follows-delivered (w e) (channel e) (n e) _ _ (first e) (second e) _ _ (k .c .ensures) (start e .pre .1 .1 .1) (i .if1 .left)
-    (c .before .if2 .left) (c .if3 .taken)
+    follows-delivered (w e) (channel e) (n e) _ _ (e .before .end-in .ensures) (end e) _ _ (k .c .ensures)
+    (start e .pre .1 .1 .1 .1) (i .if1 .left) (c .before .if2 .left) (c .if3 .taken)
 
 is-apart-requires : tie.Need-is-apart-requires
 is-apart-requires c κs = search needs
@@ -73,16 +64,14 @@ returns-4 c =
     let k = t .before .before in
     let i = k .before in
     let e = i .before in
-    let p = e .before .before .place-before .ensures .0 in
-    let r = apart-is (w e) (channel e) _ _ (start e .pre .1 .1 .0) p _ (c .is-apart .ensures) in
-    follows-apart (w e) (channel e) (n e) _ _ (first e) (second e) _ _ (k .c .ensures) (start e .pre .1 .1 .1) (i .if1 .left)
-    (t .before .if2 .left) (t .if3 .left) _ r
+    let r = apart-is (w e) (channel e) (n e) _ (start e .pre .1 .1 .1 .0) _ (c .is-apart .ensures) in
+    follows-apart (w e) (channel e) (n e) _ _ (e .before .end-in .ensures) (end e) _ _ (k .c .ensures)
+    (start e .pre .1 .1 .1 .1) (i .if1 .left) (t .before .if2 .left) (t .if3 .left) _ r
 
 pub follows-spec : {M : Type 1} → statement M
 follows-spec =
     tie.close
     (tie.spec
-    place-before-requires
     end-in-requires
     end-in-requires-2
     returns

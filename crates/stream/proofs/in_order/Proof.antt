@@ -3,7 +3,7 @@ use mathlib.Core.Path.{refl}
 use native.Mathlib.Omega.{arith}
 use borrow.Author.Needs.{needs}
 use Rattle.kinds.proofs.Laws.{refuted, held}
-use Rattle.room.proofs.Laws.Ring.{ring-inside}
+use Rattle.room.proofs.Laws.Ring.{ring-inside, ring-after}
 use Rattle.stream.proofs.Laws.{Ordering, ordering-delivered, ordering-lost, ordering-broken, ordering-more, ordering-end, sent-delivered}
 use Rattle.stream.proofs.in_order.Statement.{statement}
 use Rattle.stream.proofs.in_order.Tie as tie
@@ -53,25 +53,27 @@ returns-2 c =
     ordering-lost _ _ _ _ _ _ _ _ _ (e .before .before .loop .inv) (e .end-in .ensures) (e .before .loop-test .taken)
     (c .if2 .taken) (i .if1 .left)
 
+place-before-requires : tie.Need-place-before-requires Inv-loop μ-loop
+place-before-requires c κs = ring-inside _ _ (c .before .before .before .before .loop .inv .place)
+
 follows-requires : tie.Need-follows-requires Inv-loop μ-loop
 follows-requires c κs =
-    let l = c .before .before .before .before in
+    let l = c .before .before .before .before .before in
     let s = l .before .before .before .before .before in
-    (s .pre .0, (s .pre .1 .0, (ring-inside _ _ (l .loop .inv .place), l .loop .inv .sent-is)))
+    let (b, h) = c .place-before .ensures in
+    (s .pre .0, (s .pre .1 .0, (h, (ring-after _ _ (ring-inside _ _ (l .loop .inv .place)) b, l .loop .inv .sent-is))))
 
 returns-3 : tie.Need-returns-3 Inv-loop μ-loop
 returns-3 c =
-    let z = c .before .before in
+    let b = c .before .before in
+    let z = b .before in
     let i = z .before in
     let e = i .before in
     ordering-broken _ _ _ _ _ _ _ _ _ (e .before .before .loop .inv) (e .end-in .ensures) (e .before .loop-test .taken)
-    (z .if2 .left) (i .if1 .left) (refuted (c .before .follows .ensures) (c .if3 .taken))
+    (z .if2 .left) (i .if1 .left) _ (b .place-before .ensures .0) (refuted (c .before .follows .ensures) (c .if3 .taken))
 
 sub-n : tie.Need-sub-n Inv-loop μ-loop
-sub-n c = omega (arith, c .before .before .if2 .left)
-
-place-before-requires : tie.Need-place-before-requires Inv-loop μ-loop
-place-before-requires c κs = ring-inside _ _ (c .before .before .before .before .before .before .loop .inv .place)
+sub-n c = omega (arith, c .before .before .before .if2 .left)
 
 sub-left : tie.Need-sub-left Inv-loop μ-loop
 sub-left c = omega arith
@@ -81,12 +83,12 @@ loop-less c = omega arith
 
 loop-again : tie.Need-loop-again Inv-loop μ-loop
 loop-again c =
-    let f = c .before in
-    let z = f .before .before in
+    let b = c .before .before in
+    let z = b .before in
     let i = z .before in
     let e = i .before in
     ordering-more _ _ _ _ _ _ _ _ _ (e .before .before .loop .inv) (e .end-in .ensures) (e .before .loop-test .taken)
-    (z .if2 .left) (i .if1 .left) (held (f .before .follows .ensures) (f .if3 .left)) _ (c .place-before .ensures .0)
+    (z .if2 .left) (i .if1 .left) _ (b .place-before .ensures .0) (held (c .before .follows .ensures) (c .if3 .left))
 
 end-in-requires-2 : tie.Need-end-in-requires-2 Inv-loop μ-loop
 end-in-requires-2 c κs =
@@ -112,10 +114,10 @@ in-order-spec =
     end-in-requires
     returns
     returns-2
+    place-before-requires
     follows-requires
     returns-3
     sub-n
-    place-before-requires
     sub-left
     loop-less
     loop-again
