@@ -1,11 +1,9 @@
 -- What has been sent, and the clock, after a slot; all else is as before. Assumes nothing.
 use Prim.Native.Nat.{ℕ, suc, _+_, _≤_, _<_}
 use mathlib.Core.Path.{_≡_, refl}
-use mathlib.Core.Bool.{Bool, true, false, _&&_}
+use mathlib.Core.Bool.{Bool, true, false}
 use native.Mathlib.Omega.{arith}
-use lib.Dec.{ltb}
 use lib.ListN.{length}
-use borrow.Author.Tests.{ltb-true, ltb-false}
 use Rattle.kinds.specs.Ranges.{mostChannels, mostHops}
 use Rattle.room.specs.Layout.{Store, numberAt, clockAt, messagesAt, sentAt, timeAt, endAt}
 use Rattle.room.specs.Layout.{linksOf, channelsOf, clockOf, hopsOf, messagesOf, routeOf, sentOf, timeOf, endOf}
@@ -52,17 +50,6 @@ module _ {w : Store} (s : Sound w) where
         let b : j < mostHops = few-places s c j h i in
         let inside : rowSentAt w (routeOf w c j) (r .row) < length w = rw (r .channel, r .place) (omega (arith, s .long)) in
         rw (r .channel, r .place) at (to-there w n (routeOf w c j) (r .row) m (r .picks) inside)
-
-    pub sent-to : (n : ℕ) → n ≤ linksOf w
-        → sentOf (movedTo w n) c j
-        ≡ elim (ltb (routeOf w c j) n && leaves w c j) [ true ↦ sentOf w c j + 1 | false ↦ sentOf w c j ]
-    sent-to n few = go (ltb (routeOf w c j) n) (leaves w c j) refl refl
-      where
-        go : (a b : Bool) → ltb (routeOf w c j) n ≡ a → leaves w c j ≡ b
-            → sentOf (movedTo w n) c j ≡ elim (a && b) [ true ↦ sentOf w c j + 1 | false ↦ sentOf w c j ]
-        go true true e f = to-goes n (ltb-true _ _ e) f
-        go true false e f = to-stays n few (λ l g. absurd (let z : _≡_ {A = ℕ} 0 1 = cc in omega arith))
-        go false b e f = to-stays n few (λ l g. absurd (omega (arith, ltb-false (routeOf w c j) n e)))
 
   -- after the slot: the clock is one number more
   pub clock-after : clockOf (moved w) ≡ clockOf w + 1
