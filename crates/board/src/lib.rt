@@ -141,9 +141,9 @@ pub extern "C" fn byanghosu_offer(
             *place = 0;
             0
         }
-        Offered::Refused(why, at) => {
+        Offered::Refused(cause, at) => {
             *place = at;
-            why
+            cause
         }
     }
 }
