@@ -5,24 +5,13 @@
 
 static uint64_t store[BYANGHOSU_STORE]; /* 512 KiB: too much for most stacks */
 
-/* Why a stream was refused. */
-static const char *reason(uint64_t refusal) {
-    static const char *const reasons[] = {
-        "opened", "a number out of range", "no links, or more than 8", "no such link", "a link twice", "links that do not join",
-        "64 channels exist", "a link with 32 rows", "no response within p", "the responses add up to more than D",
-        "a buffer is too small",
-    };
-    if (refusal == 14) return "the clock is at its end";
-    if (refusal == 17) return "the store is not sound";
-    return refusal <= 10 ? reasons[refusal] : "?";
-}
-
 static void open_stream(const char *name, uint64_t c, uint64_t p, uint64_t d, uint64_t b, const uint64_t *route, size_t hops) {
-    uint64_t channel, responses[8], delays[8], reserved[8], place;
+    enum { HOPS = BYANGHOSU_MOST_HOPS };
+    uint64_t channel, responses[HOPS], delays[HOPS], reserved[HOPS], place;
     uint64_t refusal = byanghosu_open(store, BYANGHOSU_STORE, c, p, d, b, route, hops, &channel, responses, delays, reserved,
                                       &place);
-    if (refusal != 0) {
-        printf("%s: refused %" PRIu64 " %" PRIu64 ", %s\n", name, refusal, place, reason(refusal));
+    if (refusal != BYANGHOSU_RAN) {
+        printf("%s: refused %" PRIu64 " %" PRIu64 ", %s\n", name, refusal, place, byanghosu_text(refusal));
         return;
     }
     printf("%s: channel %" PRIu64 "\n", name, channel);
@@ -35,11 +24,11 @@ int main(void) {
     const uint64_t links[] = {0, 1, 0, 64, 1, 2, 0, 64}; /* from, to, horizon, buffer of each link */
     const uint64_t both[] = {0, 1}, first[] = {0}, second[] = {1};
     uint64_t place;
-    if (byanghosu_set_up(store, BYANGHOSU_STORE, links, 8, &place) != 0) return 1;
+    if (byanghosu_set_up(store, BYANGHOSU_STORE, links, 8, &place) != BYANGHOSU_RAN) return 1;
     open_stream("2 packets every 10 slots, within 8", 2, 10, 8, 2, both, 2);
     open_stream("3 packets every 12 slots, within 6", 3, 12, 6, 1, first, 1);
     open_stream("1 packet every 5 slots, within 4", 1, 5, 4, 1, second, 1);
     open_stream("3 packets every 10 slots, within 5", 3, 10, 5, 1, first, 1);
-    printf("channels open: %" PRIu64 "\n", store[1]);
+    printf("channels open: %" PRIu64 "\n", store[BYANGHOSU_AT_CHANNELS]);
     return 0;
 }

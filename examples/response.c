@@ -8,8 +8,8 @@ int main(void) {
     for (uint64_t limit = 11; limit >= 8; limit--) {
         uint64_t response, trials, place;
         uint64_t refusal = byanghosu_response(table, sizeof table / sizeof *table, 3, limit, &response, &trials, &place);
-        if (refusal != 0)
-            printf("limit %" PRIu64 ": refused %" PRIu64 " %" PRIu64 "\n", limit, refusal, place);
+        if (refusal != BYANGHOSU_RAN)
+            printf("limit %" PRIu64 ": refused %" PRIu64 ", %s\n", limit, refusal, byanghosu_text(refusal));
         else if (response == 0)
             printf("limit %" PRIu64 ": no response, %" PRIu64 " trials\n", limit, trials);
         else

@@ -8,10 +8,10 @@ static uint64_t store[BYANGHOSU_STORE]; /* 512 KiB: too much for most stacks */
 static void set_up(const uint64_t *links, size_t numbers) {
     uint64_t place;
     uint64_t refusal = byanghosu_set_up(store, BYANGHOSU_STORE, links, numbers, &place);
-    if (refusal != 0)
-        printf("refused %" PRIu64 " at link %" PRIu64 "\n", refusal, place);
+    if (refusal != BYANGHOSU_RAN)
+        printf("refused %" PRIu64 " at link %" PRIu64 ": %s\n", refusal, place, byanghosu_text(refusal));
     else
-        printf("links %" PRIu64 "\n", store[0]);
+        printf("links %" PRIu64 "\n", store[BYANGHOSU_AT_LINKS]);
 }
 
 int main(void) {
@@ -22,6 +22,6 @@ int main(void) {
     printf("after set-up: %s\n", byanghosu_sound(store, BYANGHOSU_STORE) ? "sound" : "not sound");
     set_up(bad, 8);
     printf("after a refused set-up: %s, links %" PRIu64 "\n",
-           byanghosu_sound(store, BYANGHOSU_STORE) ? "sound" : "not sound", store[0]);
+           byanghosu_sound(store, BYANGHOSU_STORE) ? "sound" : "not sound", store[BYANGHOSU_AT_LINKS]);
     return 0;
 }

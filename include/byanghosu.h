@@ -1,9 +1,22 @@
-/* Byanghosu: what the router's control board calls. Numbers and lent buffers only.
+/* Byanghosu: what the router's control board calls. Numbers and lent buffers only. For C99 and C++11, on x86-64.
  *
  * Set-up, open, offer and the response return the refusal number of document 01, or 0 where they ran; a slot gives back its
- * sends, and writes that number to a lent one. A refused call writes no output but this, `place`, the place that the refusal names
- * (0 where none is named), and an open's numbers per link, all 0; a call that ran sets `place` to 0. No pointer may be null, and
- * no two lent buffers of one call may overlap. */
+ * sends, and writes that number to a lent one. A refused call writes no output but this, `place`, the place that the refusal
+ * names (0 where none is named), and an open's numbers per link, all 0; a call that ran sets `place` to 0.
+ *
+ * What C must keep:
+ * - Pointers. None may be null: where a length is 0, pass a pointer to any number of yours, which is then not touched. All are
+ *   aligned as uint64_t is. No two lent buffers of one call may share a number.
+ * - Lengths count numbers of 8 bytes, not bytes. One that is too small, too large for what it counts or ends within a link or a
+ *   row is answered, as each call says below; one that is larger than what is really there cannot be seen, and the call may
+ *   then read or write beyond it.
+ * - The store. It is C's memory, and nothing in it is a pointer: it may be copied, saved and put back. Between calls C may read
+ *   it and writes nothing to it. A change that leaves it unsound is answered with 17; any other is taken for true.
+ * - Threads. What is lent to a call is left alone by all others until it returns. The library has no memory of its own, so calls
+ *   that are lent other buffers may run at the same time.
+ * - The stack. A call needs at most BYANGHOSU_STACK bytes, among them up to 128 below the stack pointer, as x86-64 allows. It
+ *   calls memcpy and memset, which are the C library's, and nothing else; it allocates nothing, waits for nothing and uses no
+ *   floating point, but it does use the SSE2 registers. `tools/exec target/tests/stack` prints what each call is seen to need. */
 #ifndef BYANGHOSU_H
 #define BYANGHOSU_H
 
@@ -11,14 +24,79 @@
 #include <stddef.h>
 #include <stdint.h>
 
-/* The length of a store, in numbers. */
-#define BYANGHOSU_STORE 65536
+#ifdef __cplusplus
+extern "C" {
+#endif
+
+/* Sizes, in numbers. */
+#define BYANGHOSU_STORE 65536   /* a store */
+#define BYANGHOSU_LINK 4        /* a link of a set-up: from, to, horizon, buffer */
+#define BYANGHOSU_ROW 3         /* a row of a response's table: C, p, delay */
+#define BYANGHOSU_SEND 5        /* a send of a slot: slot, link, channel, message, packet */
+#define BYANGHOSU_MOST_LINKS 16 /* most links of a network, and so most sends of a slot */
+#define BYANGHOSU_MOST_HOPS 8   /* most links of a route */
+#define BYANGHOSU_MOST_ROWS 32  /* most rows of a table */
+
+/* Numbers of a store that C may read, by their places; docs/STORE.md has all of them. */
+#define BYANGHOSU_AT_LINKS 0    /* how many links there are */
+#define BYANGHOSU_AT_CHANNELS 1 /* how many channels have been opened */
+#define BYANGHOSU_AT_CLOCK 2    /* the present slot */
+
+/* The most stack that a call needs, in bytes. */
+#define BYANGHOSU_STACK 2048
+
+/* Document 01's refusal numbers, and what `place` then counts, if it is not 0. */
+#define BYANGHOSU_RAN UINT64_C(0)              /* not refused */
+#define BYANGHOSU_RANGE UINT64_C(1)            /* open: C, p, D or B outside its range */
+#define BYANGHOSU_ROUTE_LENGTH UINT64_C(2)     /* open: the route has 0 or more than 8 links */
+#define BYANGHOSU_NO_LINK UINT64_C(3)          /* open: a link number does not exist; place on the route */
+#define BYANGHOSU_LINK_TWICE UINT64_C(4)       /* open: a link stands twice; place on the route */
+#define BYANGHOSU_LINKS_APART UINT64_C(5)      /* open: a link does not start where the one before ends; place on the route */
+#define BYANGHOSU_CHANNELS_FULL UINT64_C(6)    /* open: 64 channels exist */
+#define BYANGHOSU_ROWS_FULL UINT64_C(7)        /* open: a link of the route has 32 rows; place on the route */
+#define BYANGHOSU_NO_RESPONSE UINT64_C(8)      /* open: on a link no response within p; place on the route */
+#define BYANGHOSU_OVER_D UINT64_C(9)           /* open: the responses add up to more than D */
+#define BYANGHOSU_BUFFER_FULL UINT64_C(10)     /* open: a link's reserved packets would exceed its buffer; place on the route */
+#define BYANGHOSU_NO_CHANNEL UINT64_C(11)      /* offer: no such channel */
+#define BYANGHOSU_MESSAGE_LENGTH UINT64_C(12)  /* offer: 0 packets or more than C */
+#define BYANGHOSU_BURST UINT64_C(13)           /* offer: burst exceeded */
+#define BYANGHOSU_END_SLOT UINT64_C(14)        /* open, offer, slot: the clock is at the end slot */
+#define BYANGHOSU_OUT_SHORT UINT64_C(15)       /* slot: output has room for fewer sends than there are links */
+#define BYANGHOSU_BAD_LINKS UINT64_C(16)       /* set-up: no links or more than 16, or one that is out of range; its place */
+#define BYANGHOSU_NOT_SOUND UINT64_C(17)       /* open, offer, slot: the store is not sound; set-up: it is too short */
+#define BYANGHOSU_BAD_TABLE UINT64_C(18)       /* response: over 32 rows, or a number out of range */
+
+/* What to print for a refusal number. Never null, and for a number that is none of the above it says so. */
+static inline const char *byanghosu_text(uint64_t refusal) {
+    switch (refusal) {
+    case BYANGHOSU_RAN: return "ran";
+    case BYANGHOSU_RANGE: return "C, p, D or B out of range";
+    case BYANGHOSU_ROUTE_LENGTH: return "no links on the route, or more than 8";
+    case BYANGHOSU_NO_LINK: return "no such link";
+    case BYANGHOSU_LINK_TWICE: return "a link twice on the route";
+    case BYANGHOSU_LINKS_APART: return "a link that does not start where the one before ends";
+    case BYANGHOSU_CHANNELS_FULL: return "64 channels are open already";
+    case BYANGHOSU_ROWS_FULL: return "32 channels go over that link already";
+    case BYANGHOSU_NO_RESPONSE: return "no response within p on that link";
+    case BYANGHOSU_OVER_D: return "the responses add up to more than D";
+    case BYANGHOSU_BUFFER_FULL: return "that link's buffer is too small for what would be reserved";
+    case BYANGHOSU_NO_CHANNEL: return "no such channel";
+    case BYANGHOSU_MESSAGE_LENGTH: return "no packets, or more than C";
+    case BYANGHOSU_BURST: return "too soon, the burst is used up";
+    case BYANGHOSU_END_SLOT: return "the clock is at the end slot";
+    case BYANGHOSU_OUT_SHORT: return "room for fewer sends than there are links";
+    case BYANGHOSU_BAD_LINKS: return "no links, more than 16, or a number of that link is wrong";
+    case BYANGHOSU_NOT_SOUND: return "the store is not sound, or too short";
+    case BYANGHOSU_BAD_TABLE: return "more than 32 rows, or C, p or the limit out of range";
+    default: return "no refusal number";
+    }
+}
 
 /* Network set-up.
  *
  * store    where the network is kept from now on; `length` numbers, at least BYANGHOSU_STORE. What it held is not read.
  *          The first BYANGHOSU_STORE numbers are all written, those beyond are left as they are
- * links    from, to, horizon and buffer of each link in turn; `numbers` of them, four a link
+ * links    from, to, horizon and buffer of each link in turn; `numbers` of them, BYANGHOSU_LINK a link
  *
  * Returns 16 for no links or more than 16 (place 0, looked at first), and for the first link, counted from 0 by `place`, of
  * which a node (0 to 255), the horizon (0 to 4,096) or the buffer (1 to 256) is out of range, whose nodes are equal, or
@@ -47,8 +125,9 @@ bool byanghosu_sound(const uint64_t *store, size_t length);
  * within p, 9 where the responses add up to more than d, 10 for a link whose buffer is too small for what would be reserved.
  * A refused call leaves the store as it was. */
 uint64_t byanghosu_open(uint64_t *store, size_t length, uint64_t c, uint64_t p, uint64_t d, uint64_t b,
-                        const uint64_t *route, size_t hops, uint64_t *channel, uint64_t responses[8], uint64_t delays[8],
-                        uint64_t reserved[8], uint64_t *place);
+                        const uint64_t *route, size_t hops, uint64_t *channel,
+                        uint64_t responses[BYANGHOSU_MOST_HOPS], uint64_t delays[BYANGHOSU_MOST_HOPS],
+                        uint64_t reserved[BYANGHOSU_MOST_HOPS], uint64_t *place);
 
 /* Offering a message; all its packets are offered at once.
  *
@@ -69,13 +148,13 @@ uint64_t byanghosu_offer(uint64_t *store, size_t length, uint64_t channel, uint6
  *
  * store    what set-up and the calls since have left; `length` numbers
  * out      takes the sends at its front, in the order of the links, five numbers each: slot, link, channel, message and
- *          packet, the last two from 0. It has `room` numbers, at least five a link. The rest of it is left as it was
+ *          packet, the last two from 0. It has `room` numbers, at least BYANGHOSU_SEND a link. The rest of it is left as it was
  * number   the refusal number, 0 where the slot ran
  *
  * Returns how many sends there are, 0 on a refusal. Refused, in the order in which they are looked at: 17 for a store that is not
  * sound, 14 for a clock at the end slot, 15 for an `out` with room for fewer sends than there are links, and 17 where the store
- * would not be sound after the slot, which set-up and the calls since are meant never to lead to. A refused call leaves the store and
- * `out` as they were; `place` is always 0. */
+ * would not be sound after the slot, which set-up and the calls since are meant never to lead to. A refused call leaves the
+ * store and `out` as they were; `place` is always 0. */
 size_t byanghosu_slot(uint64_t *store, size_t length, uint64_t *out, size_t room, uint64_t *number, uint64_t *place);
 
 /* Long waits: how many slots from now no link can send in, if nothing is offered until then. All that are left up to the end slot
@@ -88,7 +167,7 @@ uint64_t byanghosu_skip(uint64_t *store, size_t length, uint64_t n);
 
 /* The response-time calculation by itself.
  *
- * table    C, p and delay of each row in turn, highest priority first; `numbers` of them, three a row
+ * table    C, p and delay of each row in turn, highest priority first; `numbers` of them, BYANGHOSU_ROW a row
  * own      C of the channel that stands below all the rows
  * limit    the longest response asked for
  * response the least length from 1 to the limit whose need is at most that length; 0 where there is none
@@ -98,5 +177,9 @@ uint64_t byanghosu_skip(uint64_t *store, size_t length, uint64_t n);
  * out of range. A row's delay is not looked at. */
 uint64_t byanghosu_response(const uint64_t *table, size_t numbers, uint64_t own, uint64_t limit,
                             uint64_t *response, uint64_t *trials, uint64_t *place);
+
+#ifdef __cplusplus
+}
+#endif
 
 #endif
