@@ -12,8 +12,8 @@
  *   then read or write beyond it.
  * - The store. It is C's memory, and nothing in it is a pointer: it may be copied, saved and put back. Between calls C may read
  *   it and writes nothing to it. A change that leaves it unsound is answered with 17; any other is taken for true.
- * - Threads. What is lent to a call is left alone by all others until it returns. The library has no memory of its own, so calls
- *   that are lent other buffers may run at the same time.
+ * - Threads. One call at a time for each store and buffer, and nobody else touches it until that call returns. The library has
+ *   no memory of its own, so calls that are lent other stores and buffers may run at the same time.
  * - The stack. A call needs at most BYANGHOSU_STACK bytes, among them up to 128 below the stack pointer, as x86-64 allows. It
  *   calls memcpy and memset, which are the C library's, and nothing else; it allocates nothing, waits for nothing and uses no
  *   floating point, but it does use the SSE2 registers. `tools/exec target/tests/stack` prints what each call is seen to need. */
