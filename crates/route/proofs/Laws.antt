@@ -6,7 +6,7 @@ use native.Mathlib.Nat.{le-trans, mul-le-mul, div-le-self}
 use native.Mathlib.Omega.{arith}
 use Rattle.kinds.specs.Ranges.{mostLinks, mostHorizon, mostC, mostP, mostB}
 use lib.Dec.{eqb, ltb}
-use mir.Syntax.{w64}
+use mir.Syntax.{w32, w64}
 use mir.Val.{Fits}
 use borrow.Author.Tests.{le-ltb, lt-ltb, ltb-true}
 use Rattle.room.specs.Layout.{Store, linksOf, fromOf, toOf, messagesOf, endOf, bOf, cOf, pOf, hopsOf, routeOf, delayOf, horizonOf}
@@ -35,12 +35,6 @@ pub joined : (w : Store) (route : ℕ → ℕ) (j : ℕ) → 0 < j → (a b : �
 joined w route j h a b ea eb = rw (ea, eb) (sym (joins-later w route j h))
 
 module _ (w : Store) (c : ℕ) (g : Ranged w c) where
-  pub delay-bounds : (i : ℕ) → i < hopsOf w c → (d : ℕ) → d ≡ delayOf w c i → (1 ≤ d) × (d ≤ mostP)
-  delay-bounds i h d e = (rw e (g .delay-least i h), rw e (le-trans (g .delay-most i h) (g .p-most)))
-
-  pub route-bound : (i : ℕ) → i < hopsOf w c → (r : ℕ) → r ≡ routeOf w c i → r < mostLinks
-  route-bound i h r e = rw e (g .route-most i h)
-
   pub first-fits : (b k : ℕ) → b ≡ bOf w c → k ≡ cOf w c → Fits w64 (b * k)
   first-fits b k eb ek =
       let hb : b ≤ mostB = rw eb (g .b-most) in
@@ -50,12 +44,39 @@ module _ (w : Store) (c : ℕ) (g : Ranged w c) where
   pub packets-bound : (k : ℕ) → k ≡ cOf w c → k ≤ mostC
   packets-bound k e = rw e (g .c-most)
 
-  pub horizon-bound : (i : ℕ) → i < hopsOf w c → (r h : ℕ) → r ≡ routeOf w c i → h ≡ horizonOf w r → h ≤ mostHorizon
-  horizon-bound i l r h e f = rw (f, e) (g .horizon-most i l)
+  pub delay-bounds : (i : ℕ) → i < hopsOf w c → (d : ℕ) → d ≡ delayOf w c i → (1 ≤ d) × (d ≤ mostP)
+  delay-bounds i h d e = (rw e (g .delay-least i h), rw e (le-trans (g .delay-most i h) (g .p-most)))
+
+  place-before : (j : ℕ) → j < hopsOf w c → j - 1 < hopsOf w c
+  place-before j h = omega arith
+
+  -- a place after the first: the link before it, and what that link may send early
+  module _ (j : ℕ) (l : j < hopsOf w c) (r : ℕ) (er : r ≡ routeOf w c (j - 1)) where
+    pub route-bound : r < mostLinks
+    route-bound = rw er (g .route-most (j - 1) (place-before j l))
+
+    pub early : (h d : ℕ) → h ≡ horizonOf w r → d ≡ delayOf w c (j - 1) → (h ≤ mostHorizon) × (1 ≤ d) × (d ≤ mostP)
+    early h d eh ed =
+        let b = delay-bounds (j - 1) (place-before j l) d ed in
+        (rw (eh, er) (g .horizon-most (j - 1) (place-before j l)), b .0, b .1)
 
 -- what may be ahead of a row, in slots: 32 bits are enough, and 64 for what is reserved
 pub ahead-most : (h d′ d : ℕ) → h ≤ mostHorizon → d′ ≤ mostP → d ≤ mostP → h + d′ + d - 2 ≤ mostHorizon + mostP + mostP
 ahead-most h d′ d x y z = omega arith
+
+module _ (h d′ : ℕ) (a : (h ≤ mostHorizon) × (1 ≤ d′) × (d′ ≤ mostP)) where
+  pub early-fits : Fits w64 (h + d′)
+  early-fits = record { fits = omega arith }
+
+  module _ (d : ℕ) (b : (1 ≤ d) × (d ≤ mostP)) where
+    pub ahead-fits : Fits w64 (h + d′ + d)
+    ahead-fits = record { fits = omega arith }
+
+    pub ahead-least : 2 ≤ h + d′ + d
+    ahead-least = omega arith
+
+    pub slots-fit : Fits w32 (h + d′ + d - 2)
+    slots-fit = record { fits = omega arith }
 
 module _ (x p : ℕ) (b : x ≤ mostHorizon + mostP + mostP) where
   pub times-fit : Fits w64 (x / p)

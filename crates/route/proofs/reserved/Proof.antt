@@ -1,7 +1,7 @@
 -- `route::reserved` meets its contract: the numbers read are in range, so that no sum wraps. Assumes nothing.
 use Prim.Native.Nat.{_-_}
 use native.Mathlib.Omega.{arith}
-use Rattle.route.proofs.Laws.{delay-bounds, route-bound, horizon-bound, packets-bound, first-fits, ahead-most, times-fit, more-fit, product-fits, reserved-on-first, reserved-on-later}
+use Rattle.route.proofs.Laws.{delay-bounds, route-bound, early, packets-bound, first-fits, early-fits, ahead-fits, ahead-least, slots-fit, ahead-most, times-fit, more-fit, product-fits, reserved-on-first, reserved-on-later}
 use borrow.Author.Needs.{needs}
 use Rattle.route.proofs.reserved.Statement.{statement}
 use Rattle.route.proofs.reserved.Tie as tie
@@ -27,7 +27,7 @@ route-requires c κs = search needs
 horizon-requires : tie.Need-horizon-requires
 horizon-requires c κs =
     let s = c .before .before .before .before in
-    (s .pre .0 .long, route-bound _ _ (s .pre .0) (s .args .j - 1) (omega arith) _ (c .route .ensures))
+    (s .pre .0 .long, route-bound _ _ (s .pre .0) _ (s .pre .1) _ (c .route .ensures))
 
 sub-delay : tie.Need-sub-delay
 sub-delay c = search needs
@@ -40,9 +40,8 @@ add-early c =
     let a = c in
     let r = a .before .before in
     let s = r .before .before .before .before in
-    let h = horizon-bound _ _ (s .pre .0) (s .args .j - 1) (omega arith) _ _ (r .route .ensures) (a .before .horizon .ensures) in
-    let d = delay-bounds _ _ (s .pre .0) (s .args .j - 1) (omega arith) _ (a .delay .ensures) in
-    omega arith
+    let e = early _ _ (s .pre .0) _ (s .pre .1) _ (r .route .ensures) _ _ (a .before .horizon .ensures) (a .delay .ensures) in
+    early-fits _ _ e
 
 delay-requires-2 : tie.Need-delay-requires-2
 delay-requires-2 c κs = search needs
@@ -52,30 +51,27 @@ add-ahead c =
     let a = c .before in
     let r = a .before .before in
     let s = r .before .before .before .before in
-    let h = horizon-bound _ _ (s .pre .0) (s .args .j - 1) (omega arith) _ _ (r .route .ensures) (a .before .horizon .ensures) in
-    let d = delay-bounds _ _ (s .pre .0) (s .args .j - 1) (omega arith) _ (a .delay .ensures) in
-    let e = delay-bounds _ _ (s .pre .0) (s .args .j) (s .pre .1) _ (c .delay2 .ensures) in
-    omega arith
+    let e = early _ _ (s .pre .0) _ (s .pre .1) _ (r .route .ensures) _ _ (a .before .horizon .ensures) (a .delay .ensures) in
+    let d = delay-bounds _ _ (s .pre .0) _ (s .pre .1) _ (c .delay2 .ensures) in
+    ahead-fits _ _ e _ d
 
 sub-ahead : tie.Need-sub-ahead
 sub-ahead c =
     let a = c .before in
     let r = a .before .before in
     let s = r .before .before .before .before in
-    let h = horizon-bound _ _ (s .pre .0) (s .args .j - 1) (omega arith) _ _ (r .route .ensures) (a .before .horizon .ensures) in
-    let d = delay-bounds _ _ (s .pre .0) (s .args .j - 1) (omega arith) _ (a .delay .ensures) in
-    let e = delay-bounds _ _ (s .pre .0) (s .args .j) (s .pre .1) _ (c .delay2 .ensures) in
-    omega arith
+    let e = early _ _ (s .pre .0) _ (s .pre .1) _ (r .route .ensures) _ _ (a .before .horizon .ensures) (a .delay .ensures) in
+    let d = delay-bounds _ _ (s .pre .0) _ (s .pre .1) _ (c .delay2 .ensures) in
+    ahead-least _ _ e _ d
 
 cast-times : tie.Need-cast-times
 cast-times c =
     let a = c .before in
     let r = a .before .before in
     let s = r .before .before .before .before in
-    let h = horizon-bound _ _ (s .pre .0) (s .args .j - 1) (omega arith) _ _ (r .route .ensures) (a .before .horizon .ensures) in
-    let d = delay-bounds _ _ (s .pre .0) (s .args .j - 1) (omega arith) _ (a .delay .ensures) in
-    let e = delay-bounds _ _ (s .pre .0) (s .args .j) (s .pre .1) _ (c .delay2 .ensures) in
-    omega arith
+    let e = early _ _ (s .pre .0) _ (s .pre .1) _ (r .route .ensures) _ _ (a .before .horizon .ensures) (a .delay .ensures) in
+    let d = delay-bounds _ _ (s .pre .0) _ (s .pre .1) _ (c .delay2 .ensures) in
+    slots-fit _ _ e _ d
 
 p-requires : tie.Need-p-requires
 p-requires c κs = search needs
@@ -91,30 +87,27 @@ cast-result c =
     let a = c .before .before in
     let r = a .before .before in
     let s = r .before .before .before .before in
-    let h = horizon-bound _ _ (s .pre .0) (s .args .j - 1) (omega arith) _ _ (r .route .ensures) (a .before .horizon .ensures) in
-    let d = delay-bounds _ _ (s .pre .0) (s .args .j - 1) (omega arith) _ (a .delay .ensures) in
-    let e = delay-bounds _ _ (s .pre .0) (s .args .j) (s .pre .1) _ (c .before .delay2 .ensures) in
-    times-fit _ _ (ahead-most _ _ _ h (d .1) (e .1))
+    let e = early _ _ (s .pre .0) _ (s .pre .1) _ (r .route .ensures) _ _ (a .before .horizon .ensures) (a .delay .ensures) in
+    let d = delay-bounds _ _ (s .pre .0) _ (s .pre .1) _ (c .before .delay2 .ensures) in
+    times-fit _ _ (ahead-most _ _ _ (e .0) (e .2) (d .1))
 
 add-result : tie.Need-add-result
 add-result c =
     let a = c .before .before in
     let r = a .before .before in
     let s = r .before .before .before .before in
-    let h = horizon-bound _ _ (s .pre .0) (s .args .j - 1) (omega arith) _ _ (r .route .ensures) (a .before .horizon .ensures) in
-    let d = delay-bounds _ _ (s .pre .0) (s .args .j - 1) (omega arith) _ (a .delay .ensures) in
-    let e = delay-bounds _ _ (s .pre .0) (s .args .j) (s .pre .1) _ (c .before .delay2 .ensures) in
-    more-fit _ _ (ahead-most _ _ _ h (d .1) (e .1))
+    let e = early _ _ (s .pre .0) _ (s .pre .1) _ (r .route .ensures) _ _ (a .before .horizon .ensures) (a .delay .ensures) in
+    let d = delay-bounds _ _ (s .pre .0) _ (s .pre .1) _ (c .before .delay2 .ensures) in
+    more-fit _ _ (ahead-most _ _ _ (e .0) (e .2) (d .1))
 
 mul-result-2 : tie.Need-mul-result-2
 mul-result-2 c =
     let a = c .before .before in
     let r = a .before .before in
     let s = r .before .before .before .before in
-    let h = horizon-bound _ _ (s .pre .0) (s .args .j - 1) (omega arith) _ _ (r .route .ensures) (a .before .horizon .ensures) in
-    let d = delay-bounds _ _ (s .pre .0) (s .args .j - 1) (omega arith) _ (a .delay .ensures) in
-    let e = delay-bounds _ _ (s .pre .0) (s .args .j) (s .pre .1) _ (c .before .delay2 .ensures) in
-    product-fits _ _ (ahead-most _ _ _ h (d .1) (e .1)) _ (packets-bound _ _ (s .pre .0) _ (r .before .before .c .ensures))
+    let e = early _ _ (s .pre .0) _ (s .pre .1) _ (r .route .ensures) _ _ (a .before .horizon .ensures) (a .delay .ensures) in
+    let d = delay-bounds _ _ (s .pre .0) _ (s .pre .1) _ (c .before .delay2 .ensures) in
+    product-fits _ _ (ahead-most _ _ _ (e .0) (e .2) (d .1)) _ (packets-bound _ _ (s .pre .0) _ (r .before .before .c .ensures))
 
 returns-2 : tie.Need-returns-2
 returns-2 c =
