@@ -1,6 +1,5 @@
--- Laws of the store's rows.
-pub mod Rows
-pub mod Walk
+-- Laws of the store's links and rows.
+pub mod Links
 pub mod Counting
 pub mod Listed
 pub mod Whole

@@ -5,7 +5,7 @@ use borrow.Author.Needs.{needs}
 use Rattle.kinds.specs.Ranges.{mostHops}
 use Rattle.room.specs.Layout.{channelsOf, hopsOf}
 use Rattle.room.proofs.Laws.Sound.{fit-counts}
-use Rattle.sound.proofs.Laws.Rows.{channel-most, hops-most}
+use Rattle.rows.proofs.Laws.There.{channel-most, hops-most}
 use Rattle.room.proofs.Laws.Adding.{Adding, adding-none, adding-more, adding-fits, adding-done}
 use Rattle.sound.proofs.all_places.Statement.{statement}
 use Rattle.sound.proofs.all_places.Tie as tie

@@ -5,7 +5,7 @@ use borrow.Author.Needs.{needs}
 use Rattle.kinds.specs.Ranges.{mostRows}
 use Rattle.room.specs.Layout.{linksOf, rowsOf}
 use Rattle.room.proofs.Laws.Sound.{fit-counts}
-use Rattle.sound.proofs.Laws.Rows.{link-most, rows-most}
+use Rattle.rows.proofs.Laws.There.{link-most, rows-most}
 use Rattle.room.proofs.Laws.Adding.{Adding, adding-none, adding-more, adding-fits, adding-done}
 use Rattle.sound.proofs.all_rows.Statement.{statement}
 use Rattle.sound.proofs.all_rows.Tie as tie

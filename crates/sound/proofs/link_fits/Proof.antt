@@ -1,6 +1,6 @@
 -- `sound::link_fits` meets its contract: the constructor of a link says whether it passes. Assumes nothing.
 use mathlib.Core.Path.{_≡_, _∙_}
-use Rattle.sound.proofs.Laws.Rows.{checkedLink, link-read, no-link, its-rows}
+use Rattle.sound.proofs.Laws.Links.{checkedLink, link-read, no-link, its-rows}
 use borrow.Author.Needs.{needs}
 use Rattle.sound.proofs.link_fits.Statement.{statement}
 use Rattle.sound.proofs.link_fits.Tie as tie

@@ -1,7 +1,7 @@
 -- `sound::row_follows` meets its contract, test by test. Assumes nothing.
-use Rattle.sound.proofs.Laws.Rows.{later, sooner, alike}
-use Rattle.sound.proofs.row_follows.Statement.{statement}
-use Rattle.sound.proofs.row_follows.Tie as tie
+use Rattle.rows.proofs.Laws.Rows.{later, sooner, alike}
+use Rattle.rows.proofs.row_follows.Statement.{statement}
+use Rattle.rows.proofs.row_follows.Tie as tie
 
 returns : tie.Need-returns
 returns c = let a = c .before .args in later (a .above) (a .higher) (a .delay) (a .c) (c .if1 .taken)

@@ -20,7 +20,7 @@ use Rattle.room.proofs.Laws.Folds.{Passing, passing-none, passing-more, passing
 use Rattle.room.proofs.Laws.Adding.{Adding, adding-none, adding-more, adding-fits, adding-done}
 use Rattle.room.proofs.Laws.Amounts.{first-most, later-most}
 use Rattle.room.proofs.Laws.Sound.{fit-ranged, fit-flows, row-is}
-use Rattle.sound.specs.Rows.{stands, follows}
+use Rattle.rows.specs.Rows.{stands, follows}
 
 reserved-most : (w : Store) (c j : ℕ) → Ranged w c → j < hopsOf w c → reservedOf w c j ≤ mostReserved
 unfolding reservedOf

@@ -7,9 +7,9 @@ use Rattle.room.specs.Layout.{linksOf}
 use Rattle.room.specs.Sound.{rowsSound}
 use Rattle.room.proofs.Laws.Folds.{Passing, passing-none, passing-more, passing-done, every-false}
 use Rattle.kinds.proofs.Laws.{refuted, held}
-use Rattle.sound.proofs.Laws.Rows.{a-link}
-use Rattle.sound.proofs.rows_sound.Statement.{statement}
-use Rattle.sound.proofs.rows_sound.Tie as tie
+use Rattle.rows.proofs.Laws.There.{a-link}
+use Rattle.rows.proofs.rows_sound.Statement.{statement}
+use Rattle.rows.proofs.rows_sound.Tie as tie
 
 abbrev Inv-loop : tie.InvT-loop
 Inv-loop store links l₀ l = Passing (rowsSound store) (linksOf store) l

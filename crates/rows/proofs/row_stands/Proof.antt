@@ -1,8 +1,9 @@
 -- `sound::row_stands` meets its contract, test by test. Assumes nothing.
-use Rattle.sound.proofs.Laws.Rows.{no-channel, no-place, on-link, channel-most, place-most}
+use Rattle.rows.proofs.Laws.There.{channel-most, place-most}
+use Rattle.rows.proofs.Laws.Rows.{no-channel, no-place, on-link}
 use borrow.Author.Needs.{needs}
-use Rattle.sound.proofs.row_stands.Statement.{statement}
-use Rattle.sound.proofs.row_stands.Tie as tie
+use Rattle.rows.proofs.row_stands.Statement.{statement}
+use Rattle.rows.proofs.row_stands.Tie as tie
 
 channels-requires : tie.Need-channels-requires
 channels-requires c κs = search needs

@@ -6,13 +6,13 @@ use native.Mathlib.Omega.{arith}
 use borrow.Author.Needs.{needs}
 use Rattle.kinds.specs.Ranges.{mostLinks, mostRows}
 use Rattle.room.specs.Layout.{rowsOf}
-use Rattle.sound.specs.Rows.{stands}
+use Rattle.rows.specs.Rows.{stands}
 use Rattle.kinds.proofs.Laws.{refuted, held}
-use Rattle.sound.proofs.Laws.Rows.{link-most, rows-most}
-use Rattle.sound.proofs.Laws.Walk.{Walk, walk-none, walk-more, walk-fits, walk-done, Row, row-absent, row-place, row-ranged}
-use Rattle.sound.proofs.Laws.Walk.{row-at, row-flows, row-early, row-full, row-good, row-most}
-use Rattle.sound.proofs.link_rows_sound.Statement.{statement}
-use Rattle.sound.proofs.link_rows_sound.Tie as tie
+use Rattle.rows.proofs.Laws.There.{link-most, rows-most}
+use Rattle.rows.proofs.Laws.Walk.{Walk, walk-none, walk-more, walk-fits, walk-done, Row, row-absent, row-place, row-ranged}
+use Rattle.rows.proofs.Laws.Walk.{row-at, row-flows, row-early, row-full, row-good, row-most}
+use Rattle.rows.proofs.link_rows_sound.Statement.{statement}
+use Rattle.rows.proofs.link_rows_sound.Tie as tie
 
 abbrev Inv-loop : tie.InvT-loop
 Inv-loop store l rows above₀ higher₀ sum₀ k₀ above higher sum k = Walk store l above higher sum k
