@@ -59,7 +59,7 @@ fn has_room(store: &[u64], c: usize, packets: u64) -> bool
     if !Slot::is_number(n + 1) {
         return false;
     }
-    if !stream::in_order(store, c, n, room::UNDELIVERED - 1) {
+    if !messages::in_order(store, c, n, room::UNDELIVERED - 1) {
         return false;
     }
     route::held(store, c, 0) + packets <= route::reserved(store, c, 0)

@@ -1,11 +1,11 @@
--- `stream::follows` meets its contract: test by test. Assumes nothing.
+-- `messages::follows` meets its contract: test by test. Assumes nothing.
 use Prim.Native.Nat.{ℕ, _+_}
 use mathlib.Core.Path.{_≡_}
 use Rattle.room.specs.Layout.{Store, endOf}
-use Rattle.stream.proofs.Laws.{follows-empty, follows-long, follows-delivered, follows-apart, end-is, apart-is}
+use Rattle.messages.proofs.Laws.{follows-empty, follows-long, follows-delivered, follows-apart, end-is, apart-is}
 use borrow.Author.Needs.{needs}
-use Rattle.stream.proofs.follows.Statement.{statement}
-use Rattle.stream.proofs.follows.Tie as tie
+use Rattle.messages.proofs.follows.Statement.{statement}
+use Rattle.messages.proofs.follows.Tie as tie
 
 abbrev start : tie.After-end-in2 → tie.Start
 start e = e .before .before .before

@@ -1,12 +1,12 @@
--- `stream::in_order` meets its contract: the messages passed are in order, so those left decide. Assumes nothing.
+-- `messages::in_order` meets its contract: the messages passed are in order, so those left decide. Assumes nothing.
 use mathlib.Core.Path.{refl}
 use native.Mathlib.Omega.{arith}
 use borrow.Author.Needs.{needs}
 use Rattle.kinds.proofs.Laws.{refuted, held}
 use Rattle.room.proofs.Laws.Ring.{ring-inside, ring-after}
-use Rattle.stream.proofs.Laws.{Ordering, ordering-delivered, ordering-lost, ordering-broken, ordering-more, ordering-end, sent-delivered}
-use Rattle.stream.proofs.in_order.Statement.{statement}
-use Rattle.stream.proofs.in_order.Tie as tie
+use Rattle.messages.proofs.Laws.{Ordering, ordering-delivered, ordering-lost, ordering-broken, ordering-more, ordering-end, sent-delivered}
+use Rattle.messages.proofs.in_order.Statement.{statement}
+use Rattle.messages.proofs.in_order.Tie as tie
 
 abbrev Inv-loop : tie.InvT-loop
 Inv-loop store c last most sent n₀ at₀ left₀ n at left = Ordering store c last most sent n at left

@@ -1,9 +1,9 @@
--- `stream::messages_fit` meets its contract: test by test. Assumes nothing.
+-- `messages::messages_fit` meets its contract: test by test. Assumes nothing.
 use Rattle.kinds.proofs.Laws.{refuted, held}
-use Rattle.stream.proofs.Laws.{too-many, few, total-fits, too-late, too-much, ordered}
+use Rattle.messages.proofs.Laws.{too-many, few, total-fits, too-late, too-much, ordered}
 use borrow.Author.Needs.{needs}
-use Rattle.stream.proofs.messages_fit.Statement.{statement}
-use Rattle.stream.proofs.messages_fit.Tie as tie
+use Rattle.messages.proofs.messages_fit.Statement.{statement}
+use Rattle.messages.proofs.messages_fit.Tie as tie
 
 messages-requires : tie.Need-messages-requires
 messages-requires c κs = search needs

@@ -1,8 +1,8 @@
--- `stream::is_apart` meets its contract: a difference in place of a sum. Assumes nothing.
-use Rattle.stream.proofs.Laws.{apart, not-apart}
+-- `messages::is_apart` meets its contract: a difference in place of a sum. Assumes nothing.
+use Rattle.messages.proofs.Laws.{apart, not-apart}
 use borrow.Author.Needs.{needs}
-use Rattle.stream.proofs.is_apart.Statement.{statement}
-use Rattle.stream.proofs.is_apart.Tie as tie
+use Rattle.messages.proofs.is_apart.Statement.{statement}
+use Rattle.messages.proofs.is_apart.Tie as tie
 
 p-requires : tie.Need-p-requires
 p-requires c κs = search needs
