@@ -1,4 +1,3 @@
-mod Tests
 mod Outcome
 mod Steps
 pub mod Laws

@@ -1,4 +1,4 @@
--- `admission::early` meets its contract: each check is looked at once those before it hold. Assumes nothing.
+-- `early::early` meets its contract: each check is looked at once those before it hold. Assumes nothing.
 use Prim.Native.Nat.{_≤_}
 use mathlib.Core.Path.{refl, sym, _∙_}
 use mathlib.Core.List.{List}
@@ -16,9 +16,9 @@ use Rattle.checks.specs.Checks.{Check}
 use Rattle.checks.proofs.Laws.{AllHold, all-passed, one-more, fails-after}
 use Rattle.opening.specs.declared.Outcome.the-variants.{Refused}
 use Rattle.opening.specs.Refusal.{earlyChecks}
-use Rattle.admission.proofs.Tests.{at-least, under}
-use Rattle.admission.proofs.early.Statement.{statement}
-use Rattle.admission.proofs.early.Tie as tie
+use Rattle.early.proofs.Tests.{at-least, under}
+use Rattle.early.proofs.early.Statement.{statement}
+use Rattle.early.proofs.early.Tie as tie
 
 -- The checks of this call.
 abbrev checks : tie.Start → List Check

@@ -1,4 +1,4 @@
--- `admission::crowded_link` meets its contract: the links passed have room for a row. Assumes nothing.
+-- `early::crowded_link` meets its contract: the links passed have room for a row. Assumes nothing.
 use Prim.Native.Nat.{_-_}
 use native.Mathlib.Nat.{zero-add}
 use native.Mathlib.Omega.{arith}
@@ -6,9 +6,9 @@ use borrow.Author.Needs.{needs}
 use Rattle.room.specs.Layout.{numberAt}
 use Rattle.room.proofs.Laws.Folds.{Passing, passing-none, passing-more, passing-first, passing-end}
 use Rattle.opening.specs.Refusal.{hasRoom}
-use Rattle.admission.proofs.Tests.{from-start, at-least, under}
-use Rattle.admission.proofs.crowded_link.Statement.{statement}
-use Rattle.admission.proofs.crowded_link.Tie as tie
+use Rattle.early.proofs.Tests.{from-start, at-least, under}
+use Rattle.early.proofs.crowded_link.Statement.{statement}
+use Rattle.early.proofs.crowded_link.Tie as tie
 
 abbrev Inv-loop : tie.InvT-loop
 Inv-loop store route n j₀ j = Passing (hasRoom store (numberAt route)) n j
