@@ -7,7 +7,8 @@ use lib.ListN.{length, replicate}
 use Rattle.room.specs.Folds.{every, firstNot}
 use Rattle.room.specs.Layout.{Store, Long, storeLength}
 use Rattle.setup.specs.declared.SetUp.the-variants.{Ready, Refused}
-use Rattle.setup.specs.SetUp.{linkPassesAt, setUpAnswer}
+use Rattle.list.specs.List.{linkPassesAt}
+use Rattle.setup.specs.SetUp.{setUpAnswer}
 use Rattle.setup.proofs.Laws.Answer.{accepted-ready, refused-short}
 
 -- "link 0 1 0 64", "link 1 2 0 64"

@@ -14,10 +14,11 @@ use Rattle.room.specs.Layout.{Store, Long, storeLength, fromOf, toOf, horizonOf
 use Rattle.room.specs.Sound.{longEnough}
 use Rattle.room.proofs.Laws.Folds.{every-at}
 use Rattle.setup.specs.declared.SetUp.the-variants.{Ready, Refused}
-use Rattle.setup.proofs.Laws.Links.{passes-at, pass-whole}
-use Rattle.setup.proofs.Laws.Fresh.{fresh-from, fresh-to, fresh-horizon, fresh-buffer}
-use Rattle.setup.specs.SetUp.{linksIn, fromIn, toIn, horizonIn, bufferIn, linkPassesAt, linksPass}
-use Rattle.setup.specs.SetUp.{setUpAnswer, freshStore, setUpStore}
+use Rattle.list.proofs.Laws.Links.{passes-at, pass-whole}
+use Rattle.fresh.proofs.Laws.Fresh.{fresh-from, fresh-to, fresh-horizon, fresh-buffer}
+use Rattle.list.specs.List.{linksIn, fromIn, toIn, horizonIn, bufferIn, linkPassesAt, linksPass}
+use Rattle.fresh.specs.Fresh.{freshStore}
+use Rattle.setup.specs.SetUp.{setUpAnswer, setUpStore}
 
 -- what set-up accepts: "links 1 to 16", each of which passes, and a store that is long enough
 pub record Accepted (w : Store) (numbers : List ℕ) : Type 0 where

@@ -11,8 +11,10 @@ use Rattle.room.specs.Sound.{rowReservedOf, soundOf}
 use Rattle.room.proofs.Laws.Folds.{sum-none}
 use Rattle.room.proofs.Laws.Sound.{Counts, LinkIs, RowsAre, Sound, is-sound}
 use Rattle.setup.specs.declared.SetUp.the-variants.{Ready}
-use Rattle.setup.specs.SetUp.{linksIn, freshStore, setUpAnswer, setUpStore}
-use Rattle.setup.proofs.Laws.Fresh.{fresh-long, fresh-links, fresh-channels, fresh-clock, fresh-rows}
+use Rattle.list.specs.List.{linksIn}
+use Rattle.fresh.specs.Fresh.{freshStore}
+use Rattle.setup.specs.SetUp.{setUpAnswer, setUpStore}
+use Rattle.fresh.proofs.Laws.Fresh.{fresh-long, fresh-links, fresh-channels, fresh-clock, fresh-rows}
 use Rattle.setup.proofs.Laws.Answer.{Accepted, ready-accepted, ready-store, accepted-some, accepted-few, stored-link}
 
 module _ (w : Store) (numbers : List ℕ) (a : Accepted w numbers) where

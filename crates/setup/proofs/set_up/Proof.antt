@@ -11,10 +11,11 @@ use borrow.Author.Needs.{needs}
 use borrow.Author.Tests.{not-true, not-false}
 use Rattle.kinds.specs.Ranges.{inRangeLinks, mostLinks}
 use Rattle.kinds.proofs.Laws.{within-true}
-use Rattle.setup.specs.SetUp.{linksIn, linksPass}
-use Rattle.setup.proofs.Laws.Links.{pass-whole}
+use Rattle.list.specs.List.{linksIn, linksPass}
+use Rattle.list.proofs.Laws.Links.{pass-whole}
 use Rattle.setup.proofs.Laws.Answer.{Accepted}
-use Rattle.setup.proofs.Steps.{none-bad, ends-count, ends-link, ends-short, ends-ready}
+use Rattle.list.proofs.Steps.{none-bad}
+use Rattle.setup.proofs.Steps.{ends-count, ends-link, ends-short, ends-ready}
 use Rattle.setup.proofs.set_up.Statement.{statement}
 use Rattle.setup.proofs.set_up.Tie as tie
 

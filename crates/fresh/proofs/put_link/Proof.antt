@@ -1,9 +1,9 @@
--- `setup::put_link` meets its contract: its four writes are the link written.
+-- `fresh::put_link` meets its contract: its four writes are the link written.
 -- Assumes nothing.
 use borrow.Author.Needs.{needs}
-use Rattle.setup.proofs.Steps.{link-written}
-use Rattle.setup.proofs.put_link.Statement.{statement}
-use Rattle.setup.proofs.put_link.Tie as tie
+use Rattle.fresh.proofs.Steps.{link-written}
+use Rattle.fresh.proofs.put_link.Statement.{statement}
+use Rattle.fresh.proofs.put_link.Tie as tie
 
 mul-at : tie.Need-mul-at
 mul-at c = search needs

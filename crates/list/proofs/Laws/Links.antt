@@ -9,7 +9,7 @@ use lib.Dec.{leb}
 use borrow.Author.Tests.{le-leb, leb-true}
 use Rattle.kinds.specs.Checks.{linkPasses}
 use Rattle.room.proofs.Laws.Folds.{every-at}
-use Rattle.setup.specs.SetUp.{fromIn, toIn, horizonIn, bufferIn, linksIn, linkPassesAt, linksPass}
+use Rattle.list.specs.List.{fromIn, toIn, horizonIn, bufferIn, linksIn, linkPassesAt, linksPass}
 
 -- a link that passes stands whole in the numbers, and they are in range; and the other way round
 module _ (numbers : List ℕ) (l : ℕ) where

@@ -1,11 +1,11 @@
--- `setup::clear` meets its contract: the numbers passed are 0 and the rest is as it was.
+-- `fresh::clear` meets its contract: the numbers passed are 0 and the rest is as it was.
 -- Assumes nothing.
 use Prim.Native.Nat.{_-_}
 use native.Mathlib.Omega.{arith}
 use Rattle.room.specs.Layout.{storeLength}
-use Rattle.setup.proofs.Steps.{Clearing, clearing-none, clearing-more, clearing-done}
-use Rattle.setup.proofs.clear.Statement.{statement}
-use Rattle.setup.proofs.clear.Tie as tie
+use Rattle.fresh.proofs.Steps.{Clearing, clearing-none, clearing-more, clearing-done}
+use Rattle.fresh.proofs.clear.Statement.{statement}
+use Rattle.fresh.proofs.clear.Tie as tie
 
 abbrev Inv-loop : tie.InvT-loop
 Inv-loop store₀ at₀ store at = Clearing store₀ store at

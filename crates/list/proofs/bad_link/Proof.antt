@@ -1,12 +1,12 @@
--- `setup::bad_link` meets its contract: every link passed over passes.
+-- `list::bad_link` meets its contract: every link passed over passes.
 -- Assumes nothing.
 use Prim.Native.Nat.{_-_}
 use native.Mathlib.Omega.{arith}
 use Rattle.kinds.proofs.Laws.{refuted, held}
 use Rattle.room.proofs.Laws.Folds.{Passing, passing-none, passing-more, passing-first, passing-end}
-use Rattle.setup.specs.SetUp.{linkPassesAt}
-use Rattle.setup.proofs.bad_link.Statement.{statement}
-use Rattle.setup.proofs.bad_link.Tie as tie
+use Rattle.list.specs.List.{linkPassesAt}
+use Rattle.list.proofs.bad_link.Statement.{statement}
+use Rattle.list.proofs.bad_link.Tie as tie
 
 abbrev Inv-loop : tie.InvT-loop
 Inv-loop links n l₀ l = Passing (linkPassesAt links) n l

@@ -11,7 +11,8 @@ use Rattle.room.specs.Layout.{Store, Long, storeLength, numberAt, linkAt, fromA
 use Rattle.room.specs.Layout.{withFrom, withTo, withHorizon}
 use Rattle.room.proofs.Laws.Layout.{written, beside}
 use Rattle.room.proofs.Laws.Folds.{below}
-use Rattle.setup.specs.SetUp.{fromIn, toIn, horizonIn, bufferIn, zeroed, linkWritten, linksWritten}
+use Rattle.list.specs.List.{fromIn, toIn, horizonIn, bufferIn}
+use Rattle.fresh.specs.Fresh.{zeroed, linkWritten, linksWritten}
 
 -- The first n numbers are 0 and the rest is as it was. `zeroed` is this at the store's length. The laws are for any n, so
 -- that nothing of that length is worked out.

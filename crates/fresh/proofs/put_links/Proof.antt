@@ -1,10 +1,10 @@
--- `setup::put_links` meets its contract: the links passed are written.
+-- `fresh::put_links` meets its contract: the links passed are written.
 -- Assumes nothing.
 use Prim.Native.Nat.{_-_}
 use native.Mathlib.Omega.{arith}
-use Rattle.setup.proofs.Steps.{Putting, putting-none, putting-more, putting-done}
-use Rattle.setup.proofs.put_links.Statement.{statement}
-use Rattle.setup.proofs.put_links.Tie as tie
+use Rattle.fresh.proofs.Steps.{Putting, putting-none, putting-more, putting-done}
+use Rattle.fresh.proofs.put_links.Statement.{statement}
+use Rattle.fresh.proofs.put_links.Tie as tie
 
 abbrev Inv-loop : tie.InvT-loop
 Inv-loop store₀ links n l₀ store l = Putting store₀ links n store l

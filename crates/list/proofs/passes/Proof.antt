@@ -1,10 +1,10 @@
--- `setup::passes` meets its contract: the link is a part of one, or the constructor's answer decides.
+-- `list::passes` meets its contract: the link is a part of one, or the constructor's answer decides.
 -- Assumes nothing.
 use native.Mathlib.Omega.{arith}
 use borrow.Author.Needs.{needs}
-use Rattle.setup.proofs.Steps.{part-at, good-at, refused-at}
-use Rattle.setup.proofs.passes.Statement.{statement}
-use Rattle.setup.proofs.passes.Tie as tie
+use Rattle.list.proofs.Steps.{part-at, good-at, refused-at}
+use Rattle.list.proofs.passes.Statement.{statement}
+use Rattle.list.proofs.passes.Tie as tie
 
 mul-at : tie.Need-mul-at
 mul-at c = search needs

@@ -10,9 +10,10 @@ use Rattle.kinds.specs.Ranges.{mostLinks}
 use Rattle.room.specs.Layout.{Store, Long, storeLength, numberAt, withLinks, linkAt, linksAt, channelsAt, clockAt, rowsAt}
 use Rattle.room.specs.Layout.{linksOf, channelsOf, clockOf, fromOf, toOf, horizonOf, bufferOf, rowsOf}
 use Rattle.room.proofs.Laws.Layout.{written, beside, as-long, stays-long}
-use Rattle.setup.specs.SetUp.{linksIn, fromIn, toIn, horizonIn, bufferIn, zeroed, linksWritten, freshStore}
-use Rattle.setup.proofs.Laws.Written.{zeroed-length, zeroed-below, zeroed-beyond, links-length, links-beside, links-from, links-to}
-use Rattle.setup.proofs.Laws.Written.{links-horizon, links-buffer, zeroed-forgets, links-front}
+use Rattle.list.specs.List.{linksIn, fromIn, toIn, horizonIn, bufferIn}
+use Rattle.fresh.specs.Fresh.{zeroed, linksWritten, freshStore}
+use Rattle.fresh.proofs.Laws.Written.{zeroed-length, zeroed-below, zeroed-beyond, links-length, links-beside, links-from, links-to}
+use Rattle.fresh.proofs.Laws.Written.{links-horizon, links-buffer, zeroed-forgets, links-front}
 
 module _ (w : Store) (numbers : List ℕ) where
   -- the cleared store with the number of links, into which the links are written
