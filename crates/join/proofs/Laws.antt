@@ -12,7 +12,8 @@ use Rattle.opening.proofs.Laws.Facts.{Early}
 use Rattle.opening.proofs.Laws.Written.{channel-length, channel-route}
 use Rattle.opening.proofs.Laws.Rows.{SameRows, same-rows, same-channel, same-place, Joinable, rows-length, next-link, next-rows}
 use Rattle.opening.proofs.Laws.Join.{written-rows, written-joinable, early-link, early-row-channel, early-row-place}
-use Rattle.join.specs.Ready.{Rows, Ready, Enterable}
+use Rattle.insert.specs.Rows.{Rows}
+use Rattle.join.specs.Ready.{Ready, Enterable}
 
 -- what has passed the first checks can be entered
 pub early-enterable : (w : Store) (q : Request) → Early w q → Enterable w q (channelsOf w)

@@ -1,15 +1,14 @@
 // What an accepted open writes: document 01, "Opening". The new channel's record, and its row on each link of its route.
 use room::channel;
 use room::head;
-use room::link;
 ghost use mathlib.Core.Path.{_≡_};
-ghost use Prim.Native.Nat.{_+_, _-_, _≤_, _<_};
+ghost use Prim.Native.Nat.{_+_, _≤_, _<_};
 ghost use lib.ListN.{length};
 ghost use Rattle.kinds.specs.Ranges.{mostChannels, mostHops};
-ghost use Rattle.room.specs.Layout.{Long, numberAt, rowsOf, routeOf, delayOf, withChannels};
+ghost use Rattle.room.specs.Layout.{Long, numberAt, routeOf, withChannels};
 ghost use Rattle.room.specs.Route.{from};
-ghost use Rattle.opening.specs.Join.{placesWritten, channelWritten, rowsBefore, rowPut, rowJoined, rowsJoined};
-ghost use Rattle.join.specs.Ready.{Rows, Ready, Enterable};
+ghost use Rattle.opening.specs.Join.{placesWritten, channelWritten, rowsJoined};
+ghost use Rattle.join.specs.Ready.{Ready, Enterable};
 
 // The first `route.len()` links of channel `x`'s route, and the delay on each.
 fn put_places(store: &mut [u64], x: usize, route: &[u64], delays: &[u64; 8])
@@ -53,66 +52,6 @@ fn put_channel(
     put_places(store, x, route, delays);
 }
 
-// How many rows of link `l` stand above a new one with delay `d`.
-fn rows_before(store: &[u64], l: usize, d: u64) -> usize
-    requires { ⌜ Rows (now store) l ⌝ }
-    ensures { λ r. ⌜ r ≡ rowsBefore (now (store .entry)) l d ⌝ }
-{
-    let rows = link::rows(store, l);
-    let mut above: usize = 0;
-    while above < rows {
-        if channel::delay(
-            store,
-            link::row_channel(store, l, above),
-            link::row_place(store, l, above),
-        )
-            > d
-        {
-            return above;
-        }
-        above += 1;
-    }
-    rows
-}
-
-// Row `at` of link `l` becomes channel `x` at place `j`; the rows from there on, to the last of `rows`, go one further down.
-fn put_row(store: &mut [u64], l: usize, at: usize, rows: usize, x: usize, j: usize)
-    requires { ⌜ Rows (now store) l ⌝ }
-    requires { ⌜ rows ≡ rowsOf (now store) l ⌝ }
-    requires { ⌜ at ≤ rows ⌝ }
-    ensures { λ _. ⌜ now (store .exit) ≡ rowPut (now (store .entry)) l at x j (rowsOf (now (store .entry)) l - at) ⌝ }
-{
-    let mut channel = x;
-    let mut place = j;
-    let mut k = at;
-    while k < rows {
-        let next_channel = link::row_channel(store, l, k);
-        let next_place = link::row_place(store, l, k);
-        link::put_row_channel(store, l, k, channel);
-        link::put_row_place(store, l, k, place);
-        channel = next_channel;
-        place = next_place;
-        k += 1;
-    }
-    link::put_row_channel(store, l, k, channel);
-    link::put_row_place(store, l, k, place);
-}
-
-// The row of channel `x` at place `j` joins its link's order.
-fn join_row(store: &mut [u64], x: usize, j: usize)
-    requires { ⌜ x < mostChannels ⌝ }
-    requires { ⌜ j < mostHops ⌝ }
-    requires { ⌜ Rows (now store) (routeOf (now store) x j) ⌝ }
-    ensures { λ _. ⌜ now (store .exit) ≡ rowJoined (now (store .entry)) (routeOf (now (store .entry)) x j)
-        (delayOf (now (store .entry)) x j) x j ⌝ }
-{
-    let l = channel::route(store, x, j);
-    let rows = link::rows(store, l);
-    let at = rows_before(store, l, channel::delay(store, x, j));
-    put_row(store, l, at, rows, x, j);
-    link::put_rows(store, l, rows + 1);
-}
-
 // The rows of channel `x` join the order of each of the `n` links of its route.
 fn join_rows(store: &mut [u64], x: usize, n: usize)
     requires { ⌜ Ready (now store) x (routeOf (now store) x) n ⌝ }
@@ -120,7 +59,7 @@ fn join_rows(store: &mut [u64], x: usize, n: usize)
 {
     let mut j: usize = 0;
     while j < n {
-        join_row(store, x, j);
+        insert::join_row(store, x, j);
         j += 1;
     }
 }

@@ -1,13 +1,13 @@
--- `join::rows_before` meets its contract: the rows passed have no greater delay. Assumes nothing.
+-- `insert::rows_before` meets its contract: the rows passed have no greater delay. Assumes nothing.
 use Prim.Native.Nat.{_-_, _<_}
 use mathlib.Core.Path.{_∙_}
 use native.Mathlib.Omega.{arith}
 use Rattle.room.proofs.Laws.Folds.{Passing, passing-none, passing-more, passing-first, passing-end}
 use Rattle.room.specs.Layout.{rowsOf}
 use Rattle.opening.specs.Join.{noLater}
-use Rattle.join.proofs.Steps.{earlier, later}
-use Rattle.join.proofs.rows_before.Statement.{statement}
-use Rattle.join.proofs.rows_before.Tie as tie
+use Rattle.insert.proofs.Steps.{earlier, later}
+use Rattle.insert.proofs.rows_before.Statement.{statement}
+use Rattle.insert.proofs.rows_before.Tie as tie
 
 abbrev Inv-loop : tie.InvT-loop
 Inv-loop store l d rows above₀ above = Passing (noLater store l d) (rowsOf store l) above

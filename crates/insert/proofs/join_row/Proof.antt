@@ -1,13 +1,13 @@
--- `join::join_row` meets its contract: the row is put in its place and counted. Assumes nothing.
+-- `insert::join_row` meets its contract: the row is put in its place and counted. Assumes nothing.
 use borrow.Author.Needs.{needs}
 use native.Mathlib.Omega.{arith}
 use Rattle.room.specs.Layout.{rowsOf}
 use Rattle.room.proofs.Laws.Folds.{first-most}
 use Rattle.opening.specs.Join.{noLater}
-use Rattle.join.specs.Ready.{Rows}
-use Rattle.join.proofs.Steps.{row-put}
-use Rattle.join.proofs.join_row.Statement.{statement}
-use Rattle.join.proofs.join_row.Tie as tie
+use Rattle.insert.specs.Rows.{Rows}
+use Rattle.insert.proofs.Steps.{row-put}
+use Rattle.insert.proofs.join_row.Statement.{statement}
+use Rattle.insert.proofs.join_row.Tie as tie
 
 -- the link that was read has room
 ready : (c : tie.After-route) → Rows (c .before .before .before .args .store .now) (c .route .result)

@@ -1,11 +1,11 @@
--- `join::put_row` meets its contract: the rows passed stand one further down. Assumes nothing.
+-- `insert::put_row` meets its contract: the rows passed stand one further down. Assumes nothing.
 use Prim.Native.Nat.{_-_}
 use mathlib.Core.Path.{_≡_, _∙_}
 use native.Mathlib.Omega.{arith}
 use lib.ListN.{length}
-use Rattle.join.proofs.Steps.{Moving, moving-none, moving-more, moving-done, moving-length}
-use Rattle.join.proofs.put_row.Statement.{statement}
-use Rattle.join.proofs.put_row.Tie as tie
+use Rattle.insert.proofs.Steps.{Moving, moving-none, moving-more, moving-done, moving-length}
+use Rattle.insert.proofs.put_row.Statement.{statement}
+use Rattle.insert.proofs.put_row.Tie as tie
 
 abbrev Inv-loop : tie.InvT-loop
 Inv-loop store₀ l at rows x j channel₀ place₀ k₀ store channel place k = Moving store₀ l at x j rows store channel place k
