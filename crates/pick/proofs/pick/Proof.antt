@@ -1,5 +1,5 @@
 -- `pick::pick` meets its contract: of the rows passed, the best current one and the best early one are kept. Assumes nothing.
-use Prim.Native.Nat.{_-_, _<_}
+use Prim.Native.Nat.{ℕ, _+_, _-_, _<_}
 use mathlib.Core.Path.{_≡_}
 use mathlib.Core.Bool.{true}
 use native.Mathlib.Omega.{arith}
@@ -25,10 +25,17 @@ abbrev μ-loop : tie.MeasureT-loop
 abbrev start : tie.At-loop Inv-loop μ-loop → tie.Start Inv-loop μ-loop
 start a = a .before .before .before .before
 
+-- a row further on, there are fewer left
+fewer : {rows k : ℕ} → k < rows → rows - (k + 1) < rows - k
+fewer h = omega arith
+
+abbrev inside : (t : tie.In-loop Inv-loop μ-loop) → t .before .loop .k < t .before .before .rows .result
+inside t = t .loop-test .taken
+
 -- row k is there, and can be read
 below : (t : tie.In-loop Inv-loop μ-loop)
     → t .before .loop .k < rowsOf (start (t .before) .args .store .now) (start (t .before) .args .l)
-below t = omega (arith, t .before .before .rows .ensures)
+below t = rw (t .before .before .rows .ensures) at (inside t)
 
 ready : (t : tie.In-loop Inv-loop μ-loop)
     → Long (start (t .before) .args .store .now) × ((start (t .before) .args .l < mostLinks) × (t .before .loop .k < mostRows))
@@ -111,7 +118,7 @@ goes-before-requires : tie.Need-goes-before-requires Inv-loop μ-loop
 goes-before-requires c κs = search needs
 
 loop-less : tie.Need-loop-less Inv-loop μ-loop
-loop-less c = omega arith
+loop-less c = fewer (inside (c .before .before .before .before .before .before .before .before .before))
 
 loop-again : tie.Need-loop-again Inv-loop μ-loop
 loop-again c =
@@ -120,7 +127,7 @@ loop-again c =
     choosing-soon (a .loop .inv) (packet g) (c .before .before .if2 .taken) (c .before .goes-before .ensures) (c .if3 .taken)
 
 loop-less-2 : tie.Need-loop-less-2 Inv-loop μ-loop
-loop-less-2 c = omega arith
+loop-less-2 c = fewer (inside (c .before .before .before .before .before .before .before .before .before))
 
 loop-again-2 : tie.Need-loop-again-2 Inv-loop μ-loop
 loop-again-2 c =
@@ -138,7 +145,7 @@ goes-before-requires-2 : tie.Need-goes-before-requires-2 Inv-loop μ-loop
 goes-before-requires-2 c κs = search needs
 
 loop-less-3 : tie.Need-loop-less-3 Inv-loop μ-loop
-loop-less-3 c = omega arith
+loop-less-3 c = fewer (inside (c .before .before .before .before .before .before .before .before .before .before))
 
 loop-again-3 : tie.Need-loop-again-3 Inv-loop μ-loop
 loop-again-3 c =
@@ -149,7 +156,7 @@ loop-again-3 c =
     (c .before .goes-before2 .ensures) (c .if4 .taken)
 
 loop-less-4 : tie.Need-loop-less-4 Inv-loop μ-loop
-loop-less-4 c = omega arith
+loop-less-4 c = fewer (inside (c .before .before .before .before .before .before .before .before .before .before))
 
 loop-again-4 : tie.Need-loop-again-4 Inv-loop μ-loop
 loop-again-4 c =
@@ -160,7 +167,7 @@ loop-again-4 c =
     (c .before .goes-before2 .ensures) (c .if4 .left)
 
 loop-less-5 : tie.Need-loop-less-5 Inv-loop μ-loop
-loop-less-5 c = omega arith
+loop-less-5 c = fewer (inside (c .before .before .before .before .before))
 
 loop-again-5 : tie.Need-loop-again-5 Inv-loop μ-loop
 loop-again-5 c =
