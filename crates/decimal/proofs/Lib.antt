@@ -1,0 +1,4 @@
+pub mod Laws
+mod Figures
+mod Reading
+mod Writing
