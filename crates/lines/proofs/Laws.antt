@@ -1,0 +1,97 @@
+-- The lines of a script, whether it comes at once or in chunks. Assumes nothing.
+use Prim.Native.Nat.{ℕ, suc, _+_, _≤_, _<_}
+use mathlib.Core.Path.{_≡_, refl, sym, _∙_}
+use mathlib.Core.Bool.{Bool, true, false, false≢true, true≢false}
+use mathlib.Core.List.{[], _∷_, _++_, append-assoc, append-nil}
+use native.Mathlib.Omega.{arith}
+use lib.Dec.{eqb}
+use lib.ListN.{length, drop}
+use Rattle.decimal.specs.Decimal.{Text}
+use Rattle.lines.specs.Lines.{lineFeed, linesFrom, ahead, feedAhead, feedBytes}
+use Rattle.lines.proofs.Gathering.{ahead-feed, ahead-other, ahead-none}
+
+-- one byte more: a line feed, or another
+line-ends : (before : Text) (b : ℕ) (rest : Text) → eqb b lineFeed ≡ true
+    → linesFrom before (b ∷ rest) ≡ before ∷ linesFrom [] rest
+unfolding linesFrom
+line-ends [] b rest e = rw (e, linesFrom)
+line-ends (a ∷ before) b rest e = rw (e, linesFrom)
+
+line-goes-on : (before : Text) (b : ℕ) (rest : Text) → eqb b lineFeed ≡ false
+    → linesFrom before (b ∷ rest) ≡ linesFrom (before ++ (b ∷ [])) rest
+unfolding linesFrom
+line-goes-on [] b rest e = rw (e, linesFrom)
+line-goes-on (a ∷ before) b rest e = rw (e, linesFrom)
+
+-- what comes after the line feed that is ahead
+abbrev pub beyond : Text → Text
+beyond chunk = drop (suc (length (ahead chunk))) chunk
+
+-- A chunk with a line feed ends the line; `more` is what comes after the chunk.
+abbrev Fed : (before chunk more : Text) → Type 0
+Fed before chunk more = linesFrom before (chunk ++ more) ≡ (before ++ ahead chunk) ∷ linesFrom [] (beyond chunk ++ more)
+
+fed-more : (before : Text) (b : ℕ) (chunk more : Text) (t : Bool) → eqb b lineFeed ≡ t
+    → (t ≡ false → Fed (before ++ (b ∷ [])) chunk more) → Fed before (b ∷ chunk) more
+fed-more before b chunk more true e h =
+    rw (line-ends before b (chunk ++ more) e, ahead-feed b chunk e .0, append-nil)
+fed-more before b chunk more false e h =
+    rw (line-goes-on before b (chunk ++ more) e, ahead-other b chunk e .0) (h refl ∙ rw append-assoc)
+
+pub lines-fed : (before chunk more : Text) → feedAhead chunk ≡ true → Fed before chunk more
+lines-fed before [] more h = absurd (false≢true (sym (ahead-none .1) ∙ h))
+lines-fed before (b ∷ chunk) more h =
+    fed-more before b chunk more (eqb b lineFeed) refl
+    (λ e. lines-fed (before ++ (b ∷ [])) chunk more (sym (ahead-other b chunk e .1) ∙ h))
+
+-- A chunk with none is a part of the line.
+abbrev Unfed : (before chunk more : Text) → Type 0
+Unfed before chunk more = linesFrom before (chunk ++ more) ≡ linesFrom (before ++ ahead chunk) more
+
+unfed-more : (before : Text) (b : ℕ) (chunk more : Text) (t : Bool) → eqb b lineFeed ≡ t → feedAhead (b ∷ chunk) ≡ false
+    → (t ≡ false → Unfed (before ++ (b ∷ [])) chunk more) → Unfed before (b ∷ chunk) more
+unfed-more before b chunk more true e f h = absurd (true≢false (sym (ahead-feed b chunk e .1) ∙ f))
+unfed-more before b chunk more false e f h =
+    rw (line-goes-on before b (chunk ++ more) e, ahead-other b chunk e .0) (h refl ∙ rw append-assoc)
+
+pub lines-unfed : (before chunk more : Text) → feedAhead chunk ≡ false → Unfed before chunk more
+lines-unfed before [] more h = rw (ahead-none .0, append-nil)
+lines-unfed before (b ∷ chunk) more h =
+    unfed-more before b chunk more (eqb b lineFeed) refl h
+    (λ e. lines-unfed (before ++ (b ∷ [])) chunk more (sym (ahead-other b chunk e .1) ∙ h))
+
+-- then all of it is ahead
+pub all-ahead : (chunk : Text) → feedAhead chunk ≡ false → ahead chunk ≡ chunk
+all-ahead [] h = ahead-none .0
+all-ahead (b ∷ chunk) h = go (eqb b lineFeed) refl (all-ahead chunk)
+  where
+    go : (t : Bool) → eqb b lineFeed ≡ t → (feedAhead chunk ≡ false → ahead chunk ≡ chunk) → ahead (b ∷ chunk) ≡ b ∷ chunk
+    go true e k = absurd (true≢false (sym (ahead-feed b chunk e .1) ∙ h))
+    go false e k = rw (ahead-other b chunk e .0, k (sym (ahead-other b chunk e .1) ∙ h))
+
+-- A last line that lacks its line feed may be given one.
+pub last-line : (b : ℕ) (before : Text) → linesFrom (b ∷ before) [] ≡ linesFrom (b ∷ before) (lineFeed ∷ [])
+unfolding linesFrom
+last-line b before = refl
+
+pub no-line : linesFrom [] [] ≡ []
+unfolding linesFrom
+no-line = refl
+
+-- What is ahead, with its line feed, is no more than the chunk, and something where the chunk is.
+pub ahead-within : (chunk : Text) → length (ahead chunk) + feedBytes (feedAhead chunk) ≤ length chunk
+ahead-within [] = rw (ahead-none .0, ahead-none .1) (omega arith)
+ahead-within (b ∷ chunk) = go (eqb b lineFeed) refl (ahead-within chunk)
+  where
+    go : (t : Bool) → eqb b lineFeed ≡ t → length (ahead chunk) + feedBytes (feedAhead chunk) ≤ length chunk
+        → length (ahead (b ∷ chunk)) + feedBytes (feedAhead (b ∷ chunk)) ≤ suc (length chunk)
+    go true e k = rw (ahead-feed b chunk e .0, ahead-feed b chunk e .1) (omega arith)
+    go false e k = rw (ahead-other b chunk e .0, ahead-other b chunk e .1) (omega (arith, k))
+
+pub ahead-some : (chunk : Text) → 0 < length chunk → 0 < length (ahead chunk) + feedBytes (feedAhead chunk)
+ahead-some [] h = absurd (omega arith)
+ahead-some (b ∷ chunk) h = go (eqb b lineFeed) refl
+  where
+    go : (t : Bool) → eqb b lineFeed ≡ t → 0 < length (ahead (b ∷ chunk)) + feedBytes (feedAhead (b ∷ chunk))
+    go true e = rw (ahead-feed b chunk e .0, ahead-feed b chunk e .1) (omega arith)
+    go false e = rw (ahead-other b chunk e .0, ahead-other b chunk e .1) (omega arith)
