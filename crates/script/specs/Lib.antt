@@ -1,0 +1,3 @@
+pub mod Phrase
+pub mod Line
+pub mod Count
