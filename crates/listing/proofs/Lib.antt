@@ -1,0 +1,4 @@
+pub mod Laws
+mod Putting
+mod Pieces
+mod Loops
