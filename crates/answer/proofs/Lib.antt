@@ -1,0 +1,3 @@
+mod Opened
+mod Ends
+pub mod Laws

@@ -1,0 +1,6 @@
+mod Front
+mod Links
+mod Lengths
+mod Ends
+mod Lines
+pub mod Laws
