@@ -1,0 +1,3 @@
+mod Cut
+mod Rest
+mod Steps
