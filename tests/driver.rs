@@ -1,6 +1,6 @@
 // What the random tests have in common: the library behind tests/driver.c, and where the random numbers come from.
 use std::cell::Cell;
-use std::io::Write;
+use std::io::{ErrorKind, Write};
 use std::process::{exit, Command, Stdio};
 
 pub fn fail(message: String) -> ! {
@@ -8,22 +8,27 @@ pub fn fail(message: String) -> ! {
     exit(1)
 }
 
-// The lines that `command` answers to the questions in `text`.
-pub fn ask(command: &[String], text: String) -> Vec<String> {
-    let mut library = Command::new(&command[0])
+// What `command` writes where it reads `input`, which it is given in pieces of so many bytes. It need not read all of it.
+pub fn output(command: &[String], input: Vec<u8>, piece: usize) -> Vec<u8> {
+    let mut program = Command::new(&command[0])
         .args(&command[1..])
         .stdin(Stdio::piped())
         .stdout(Stdio::piped())
         .spawn()
         .unwrap_or_else(|e| fail(format!("{}: {e}", command[0])));
-    let mut stdin = library.stdin.take().unwrap();
-    let feeder = std::thread::spawn(move || stdin.write_all(text.as_bytes()));
-    let output = library.wait_with_output().unwrap();
-    feeder.join().unwrap().unwrap_or_else(|e| fail(format!("the driver stopped reading: {e}")));
-    if !output.status.success() {
-        fail(format!("the driver ended with {}", output.status));
+    let mut stdin = program.stdin.take().unwrap();
+    let feeder = std::thread::spawn(move || input.chunks(piece).try_for_each(|part| stdin.write_all(part)));
+    let output = program.wait_with_output().unwrap();
+    match feeder.join().unwrap() {
+        Err(e) if e.kind() != ErrorKind::BrokenPipe => fail(format!("{command:?} cannot be written to: {e}")),
+        _ if !output.status.success() => fail(format!("{command:?} ended with {}", output.status)),
+        _ => output.stdout,
     }
-    let told = String::from_utf8(output.stdout).unwrap();
+}
+
+// The lines that `command` answers to the questions in `text`.
+pub fn ask(command: &[String], text: String) -> Vec<String> {
+    let told = String::from_utf8(output(command, text.into_bytes(), usize::MAX)).unwrap();
     told.lines().map(str::to_string).collect()
 }
 

@@ -3,7 +3,7 @@
 use crate::asked::{told_offer, told_slot, Asked};
 use crate::counters;
 use crate::driver::{fail, Random};
-use crate::loads::{dense, Loads};
+use crate::loads::{dense, InUse, Loads};
 use crate::opened::{ask_open, RECORDS};
 use crate::opening::{Answer, Request};
 use crate::questions::{HELD, LENGTHS};
@@ -55,13 +55,6 @@ impl<'a> Live<'a> {
             self.network.add(&Room::read(&self.asked.questions.store).unwrap());
         }
         answer
-    }
-
-    fn open_some(&mut self, style: &Style) {
-        self.write();
-        let room = Room::read(&self.asked.questions.store).unwrap();
-        let request = style.request(self.random, &room);
-        drop(self.open(&request));
     }
 
     pub fn offer(&mut self, channel: u64, packets: u64) -> Result<(u64, u64), u64> {
@@ -174,40 +167,6 @@ impl<'a> Live<'a> {
         }
     }
 
-    // What is offered to every channel in this slot.
-    fn offers(&mut self, loads: &mut Loads) {
-        let random = self.random;
-        let wave = random.chance(30);
-        for c in 0..self.network.streams.len() {
-            let slot = self.network.slot;
-            let messages = if wave { 16 } else { loads.messages(random, c, &self.network.streams[c], slot) };
-            for _ in 0..messages {
-                let stream = &self.network.streams[c];
-                let accepted = stream.logical(slot) - slot <= (stream.b - 1) * stream.p;
-                if !accepted && !random.chance(10) {
-                    break;
-                }
-                let packets = loads.packets(random, stream);
-                if self.offer(c as u64, packets).is_err() {
-                    break;
-                }
-            }
-        }
-    }
-
-    // Offers that as a rule are refused.
-    fn bad_offer(&mut self) {
-        let (random, channels) = (self.random, self.network.streams.len() as u64);
-        let known = random.place_of(channels as usize) as u64;
-        let most = self.network.streams.get(known as usize).map_or(1, |stream| stream.c);
-        let (channel, packets) = match random.to(3) {
-            0 => (random.pick(&[channels, channels + 1, random.above(channels), u64::MAX]), random.to(2)),
-            1 => (known, 0),
-            _ => (known, random.pick(&[random.above(most), u64::MAX])),
-        };
-        let _ = self.offer(channel, packets);
-    }
-
     fn damaged(&mut self) {
         self.write();
         let room = Room::read(&self.asked.questions.store).unwrap();
@@ -248,16 +207,6 @@ impl<'a> Live<'a> {
         }
     }
 
-    // Opens until little more fits.
-    fn fill(&mut self, style: &Style) {
-        let mut in_vain = 0;
-        while in_vain < 5 {
-            let channels = self.network.streams.len();
-            self.open_some(style);
-            in_vain = if self.network.streams.len() == channels { in_vain + 1 } else { 0 };
-        }
-    }
-
     // Opens, and then about so many slots, or a few if there is no channel.
     pub fn play(&mut self, slots: u64) {
         let random = self.random;
@@ -283,6 +232,27 @@ impl<'a> Live<'a> {
         }
         self.settle();
         self.asked.questions.ask_sum(HELD, "a room that was in use");
+    }
+}
+
+impl InUse for Live<'_> {
+    fn random(&self) -> &Random {
+        self.random
+    }
+
+    fn network(&self) -> &Network {
+        &self.network
+    }
+
+    fn open_some(&mut self, style: &Style) {
+        self.write();
+        let room = Room::read(&self.asked.questions.store).unwrap();
+        let request = style.request(self.random, &room);
+        drop(self.open(&request));
+    }
+
+    fn offer_some(&mut self, channel: u64, packets: u64) -> bool {
+        self.offer(channel, packets).is_ok()
     }
 }
 

@@ -68,3 +68,57 @@ impl Loads {
         if self.full || random.chance(2) { stream.c } else { 1 + random.to(stream.c - 1) }
     }
 }
+
+// A room in use, in which channels are opened and messages offered.
+pub trait InUse {
+    fn random(&self) -> &Random;
+    fn network(&self) -> &Network;
+    fn open_some(&mut self, style: &Style);
+    // Whether a message is accepted.
+    fn offer_some(&mut self, channel: u64, packets: u64) -> bool;
+
+    // Opens until little more fits.
+    fn fill(&mut self, style: &Style) {
+        let mut in_vain = 0;
+        while in_vain < 5 {
+            let channels = self.network().streams.len();
+            self.open_some(style);
+            in_vain = if self.network().streams.len() == channels { in_vain + 1 } else { 0 };
+        }
+    }
+
+    // How many packets one more message of a channel has; as a rule none is offered where it would be refused.
+    fn next_message(&self, loads: &Loads, c: usize) -> Option<u64> {
+        let (random, slot, stream) = (self.random(), self.network().slot, &self.network().streams[c]);
+        let accepted = stream.logical(slot) - slot <= (stream.b - 1) * stream.p;
+        (accepted || random.chance(10)).then(|| loads.packets(random, stream))
+    }
+
+    // What is offered to every channel in this slot.
+    fn offers(&mut self, loads: &mut Loads) {
+        let wave = self.random().chance(30);
+        for c in 0..self.network().streams.len() {
+            let (random, network) = (self.random(), self.network());
+            let messages = if wave { 16 } else { loads.messages(random, c, &network.streams[c], network.slot) };
+            for _ in 0..messages {
+                let Some(packets) = self.next_message(loads, c) else { break };
+                if !self.offer_some(c as u64, packets) {
+                    break;
+                }
+            }
+        }
+    }
+
+    // Offers that as a rule are refused.
+    fn bad_offer(&mut self) {
+        let (random, channels) = (self.random(), self.network().streams.len() as u64);
+        let known = random.place_of(channels as usize) as u64;
+        let most = self.network().streams.get(known as usize).map_or(1, |stream| stream.c);
+        let (channel, packets) = match random.to(3) {
+            0 => (random.pick(&[channels, channels + 1, random.above(channels), u64::MAX]), random.to(2)),
+            1 => (known, 0),
+            _ => (known, random.pick(&[random.above(most), u64::MAX])),
+        };
+        self.offer_some(channel, packets);
+    }
+}

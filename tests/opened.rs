@@ -1,6 +1,6 @@
-// An open as tests/driver.c reads and answers it, and as document 01's program prints it.
+// An open as tests/driver.c reads and answers it.
 use crate::driver::fail;
-use crate::opening::{open, Answer, Part, Request};
+use crate::opening::{open, Answer, Request};
 use crate::questions::{spaced, Questions};
 use crate::room::broken;
 
@@ -17,17 +17,6 @@ fn told(answer: &Answer) -> String {
                 (numbers[j], numbers[8 + j], numbers[16 + j]) = (part.response, part.delay, part.reserved);
             }
             format!("0 0 {channel}{}", spaced(&numbers))
-        }
-    }
-}
-
-// As document 01's program prints it.
-pub fn printed(answer: &Answer) -> String {
-    match answer {
-        Err((number, place)) => format!("refused {number} {place}"),
-        Ok((channel, parts)) => {
-            let part = |part: &Part| format!(" {}/{}/{}", part.response, part.delay, part.reserved);
-            format!("channel {channel}{}", parts.iter().map(part).collect::<String>())
         }
     }
 }

@@ -130,6 +130,15 @@ impl Request {
         Channel { c, p, d, b, messages: 0, route, delay, sent, time: [0; 24], end: [0; 24] }
     }
 
+    // What an open answers in a sound room, and what it leaves in it.
+    pub fn open(&self, room: &mut Room) -> Answer {
+        let parts = self.parts(room)?;
+        let full = |j: usize| room.taken(self.link(room, j)) as u64 + parts[j].reserved > self.link(room, j).buffer;
+        refused_where(full, parts.len(), 10)?;
+        self.add(room, &parts);
+        Ok((room.channels.len() as u64 - 1, parts))
+    }
+
     // The new channel with a row on each link of its route.
     fn add(&self, room: &mut Room, parts: &[Part]) {
         room.channels.push(self.channel(parts.iter().map(|part| part.delay).collect()));
@@ -144,12 +153,19 @@ impl Request {
 pub fn open(store: &mut [u64], request: &Request) -> Answer {
     refused_unless(broken(store).0.is_empty(), 17)?;
     let mut room = Room::read(store).unwrap();
-    let parts = request.parts(&room)?;
-    let full = |j: usize| room.taken(request.link(&room, j)) as u64 + parts[j].reserved > request.link(&room, j).buffer;
-    refused_where(full, parts.len(), 10)?;
-    let channel = room.channels.len();
-    request.add(&mut room, &parts);
-    store[channel_at(channel)..channel_at(channel + 1)].fill(0);
+    let (channel, parts) = request.open(&mut room)?;
+    store[channel_at(channel as usize)..channel_at(channel as usize + 1)].fill(0);
     room.write(store);
-    Ok((channel as u64, parts))
+    Ok((channel, parts))
+}
+
+// As document 01's program prints it.
+pub fn printed(answer: &Answer) -> String {
+    match answer {
+        Err((number, place)) => format!("refused {number} {place}"),
+        Ok((channel, parts)) => {
+            let part = |part: &Part| format!(" {}/{}/{}", part.response, part.delay, part.reserved);
+            format!("channel {channel}{}", parts.iter().map(part).collect::<String>())
+        }
+    }
 }
