@@ -21,6 +21,8 @@
  *                                    is how many numbers past the sends, in the output and beyond it, are not what they were
  * run LENGTH ROOM COUNT         ->   NUMBER PLACE SLOTS SENDS CHANGED SUM of so many slots, or up to the first that is refused:
  *                                    its number and place, how many ran, the sends of all, and a sum over them in turn
+ * tick LENGTH ROOM COUNT        ->   five numbers a send, then NUMBER PLACE SLOTS CHANGED of as many slots; those in which nothing
+ *                                    can be sent are skipped
  * idle LENGTH                   ->   how many slots no link can send in
  * skip LENGTH COUNT             ->   how many of them were skipped */
 #include "../include/byanghosu.h"
@@ -170,6 +172,21 @@ static void run(void) {
            changed, all);
 }
 
+static void tick(void) {
+    size_t length = number_to(HELD), room = number_to(MOST);
+    uint64_t count = number(), slots = 0, changed = 0;
+    struct turn t = {0};
+    while (slots < count) {
+        t = turn(length, room);
+        changed += t.changed;
+        if (t.refusal) break;
+        for (size_t i = 0; i < t.numbers; i++) printf("%" PRIu64 " ", out[i]);
+        slots++;
+        if (t.sends == 0) slots += byanghosu_skip(store, length, count - slots);
+    }
+    printf("%" PRIu64 " %" PRIu64 " %" PRIu64 " %" PRIu64 "\n", t.refusal, t.place, slots, changed);
+}
+
 static void idle(void) { printf("%" PRIu64 "\n", byanghosu_idle(store, number_to(HELD))); }
 
 static void skip(void) {
@@ -181,7 +198,7 @@ int main(void) {
     static const struct { const char *word; void (*answer)(void); } questions[] = {
         {"response", response}, {"fill", fill}, {"put", put}, {"get", get}, {"sum", sum},
         {"setup", set_up}, {"sound", sound}, {"open", open_channel}, {"offer", offer}, {"slot", slot}, {"run", run},
-        {"idle", idle}, {"skip", skip},
+        {"tick", tick}, {"idle", idle}, {"skip", skip},
     };
     char word[WORD];
     for (next(word); *word; next(word)) {
