@@ -2,13 +2,15 @@
 use std::cell::Cell;
 use std::io::{ErrorKind, Write};
 use std::process::{exit, Command, Stdio};
+use std::time::Duration;
 
 pub fn fail(message: String) -> ! {
     eprintln!("{}: {message}", std::env::args().next().unwrap_or_default());
     exit(1)
 }
 
-// What `command` writes where it reads `input`, which it is given in pieces of so many bytes. It need not read all of it.
+// What `command` writes where it reads `input`, which it is given in pieces of so many bytes. Small ones come slowly, so that it
+// reads one by one. It need not read all of them.
 pub fn output(command: &[String], input: Vec<u8>, piece: usize) -> Vec<u8> {
     let mut program = Command::new(&command[0])
         .args(&command[1..])
@@ -17,7 +19,12 @@ pub fn output(command: &[String], input: Vec<u8>, piece: usize) -> Vec<u8> {
         .spawn()
         .unwrap_or_else(|e| fail(format!("{}: {e}", command[0])));
     let mut stdin = program.stdin.take().unwrap();
-    let feeder = std::thread::spawn(move || input.chunks(piece).try_for_each(|part| stdin.write_all(part)));
+    let pause = Duration::from_millis((piece < 100) as u64);
+    let mut feed = move |part: &[u8]| {
+        std::thread::sleep(pause);
+        stdin.write_all(part)
+    };
+    let feeder = std::thread::spawn(move || input.chunks(piece).try_for_each(&mut feed));
     let output = program.wait_with_output().unwrap();
     match feeder.join().unwrap() {
         Err(e) if e.kind() != ErrorKind::BrokenPipe => fail(format!("{command:?} cannot be written to: {e}")),

@@ -141,7 +141,7 @@ fn random(roomrun: &[String], driver: &[String]) {
     while counts.lines < lines {
         let scripts = some_scripts(&random);
         let small = |script: &Vec<u8>| script.len() < 5_000;
-        let piece = |script| random.pick(if small(script) { &[1, 7, 256, usize::MAX] } else { &[255, 4_096, 65_536, usize::MAX] });
+        let piece = |script| random.pick(if small(script) { &[40, 256, usize::MAX] } else { &[255, 4_096, 65_536, usize::MAX] });
         let pieces: Vec<usize> = scripts.iter().map(piece).collect();
         compare(&scripts, &pieces, &[roomrun, driver], &mut counts);
     }
