@@ -158,17 +158,17 @@ pub fn crowded(random: &Random) -> Vec<u8> {
     author.play(&style, 150)
 }
 
-// A set-up that as a rule is refused, and lines after it that then are not read.
+// A set-up that as a rule is refused, and lines after it that are then not read.
 pub fn refused(random: &Random) -> Vec<u8> {
     let mut author = Author::new(random);
     let mut links = network(random, Size::Full);
     links.truncate(4 * random.pick(&[0, 1, 2, 16, 16, 1 + random.to(15) as usize]));
-    if links.is_empty() || random.chance(8) {
+    if links.is_empty() || random.chance(12) {
         let more = random.pick(&[0, 17, 18, 33, 40 + random.to(2_000) as usize]);
         links = [0, 1, 0, 64].repeat(more);
     } else {
         let at = 4 * random.place_of(links.len() / 4);
-        match random.to(5) {
+        match random.to(7) {
             0 => links[at] = random.above(255),
             1 => links[at + 1] = random.above(255),
             2 => links[at + 2] = random.above(4_096),

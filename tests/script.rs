@@ -111,7 +111,7 @@ fn some_scripts(random: &Random) -> Vec<Vec<u8>> {
     scripts.extend((0..2).map(|_| random.spoiled(&making::used(random, size(), 100 + random.to(900)), 8)));
     scripts.extend((0..2).map(|_| random.spoiled(&making::used(random, Size::Small, 20 + random.to(80)), 3)));
     scripts.push(making::refused(random));
-    scripts.push(random.spoiled(&making::refused(random), 12));
+    scripts.extend((0..3).map(|_| random.spoiled(&making::refused(random), 7)));
     scripts.push(random.wild());
     scripts
 }

@@ -38,9 +38,8 @@ impl Random {
             0 if at > 0 => drop(words.remove(at)),
             1 => words.insert(at + 1, self.pick(&ODD).as_bytes().to_vec()),
             2 => words.push(self.to(20).to_string().into_bytes()),
-            3 if self.chance(3) => words[0] = self.pick(&FIRST).as_bytes().to_vec(),
             _ if at > 0 => words[at] = self.pick(&ODD).as_bytes().to_vec(),
-            _ => {}
+            _ => words[0] = self.pick(&FIRST).as_bytes().to_vec(),
         }
         *line = words.join(&b' ');
     }
@@ -63,7 +62,7 @@ impl Random {
             6 if !spaces.is_empty() => line.insert(self.pick(&spaces), b' '),
             7 => line.insert(0, b' '),
             8 => line.push(self.pick(b" \r")),
-            9 => line.clear(),
+            9 if self.chance(2) => line.clear(),
             _ => self.lengthen(line),
         }
     }
@@ -87,7 +86,7 @@ impl Random {
         }
     }
 
-    // One line in so many, most of them not among the first ones, which set up.
+    // One line in so many; where these are few, most of them not among the first ones, which set up.
     pub fn spoiled(&self, script: &[u8], one_in: u64) -> Vec<u8> {
         let mut lines: Vec<Vec<u8>> = lines(script).iter().map(|line| line.to_vec()).collect();
         for _ in 0..1 + lines.len() as u64 / one_in {
@@ -95,7 +94,7 @@ impl Random {
             if all == 0 {
                 break;
             }
-            let first = if self.chance(8) { 0 } else { all.min(17) - 1 };
+            let first = if one_in < 8 || self.chance(8) { 0 } else { all.min(17) - 1 };
             let at = (first + self.to(all - 1 - first)) as usize;
             if self.chance(5) { self.spoil_order(&mut lines, at) } else { self.spoil_line(&mut lines[at]) }
         }
