@@ -83,7 +83,9 @@ fn read(path: &Path) -> Vec<u8> {
 fn with_extension(dir: &str, extension: &str) -> Vec<PathBuf> {
     let files = std::fs::read_dir(dir).unwrap_or_else(|e| fail(format!("{dir}: {e}")));
     let paths = files.map(|file| file.unwrap().path()).filter(|path| path.extension().is_some_and(|e| e == extension));
-    paths.collect()
+    let mut paths: Vec<PathBuf> = paths.collect();
+    paths.sort();
+    paths
 }
 
 fn worked(dir: &str, roomrun: &[String]) {
