@@ -9,12 +9,13 @@ const OFTEN: [(&str, u64); 6] =
     [("channel", 50), ("accept", 1_000), ("send", 5_000), ("slot", 500), ("bad", 100), ("early sends", 1_000)];
 
 // And what so many times at least.
-const SOME: [(&str, u64); 22] = [
+const SOME: [(&str, u64); 23] = [
     ("scripts", 30), ("scripts over 65,536 bytes", 2), ("scripts with no last line feed", 5), ("empty scripts", 1), ("links", 20),
     ("bad: empty", 5), ("bad: over 255 bytes", 5), ("bad: link", 5), ("bad: carriage return", 5), ("bad: no text", 5),
     ("bad: space at an end", 5), ("bad: two spaces", 5), ("bad: unknown word", 5), ("bad: sign", 5), ("bad: other bytes", 5),
     ("bad: 2^64 or more", 5), ("bad: missing or extra number", 5), ("lines of 254 bytes", 3), ("lines of 255 bytes", 3),
     ("lines of 256 bytes", 3), ("lines of 257 bytes", 3), ("lines over 65,536 bytes", 1),
+    ("set-ups by a word that only starts with link", 3),
 ];
 
 // The refusals that a script can reach, and those of them that name a place.
@@ -68,6 +69,8 @@ impl Counts {
         }
         self.count("lines over 65,536 bytes", lines.iter().filter(|line| line.len() > 65_536).count() as u64);
         self.count("early sends", listing.early);
+        let sets_up = lines.iter().map(|line| first_word(line)).find(|word| *word != b"link");
+        self.count("set-ups by a word that only starts with link", sets_up.is_some_and(|word| word.starts_with(b"link")) as u64);
         for printed in String::from_utf8_lossy(&listing.out).lines() {
             self.printed(printed, &lines);
         }

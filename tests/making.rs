@@ -178,6 +178,9 @@ pub fn refused(random: &Random) -> Vec<u8> {
         }
     }
     links.chunks(4).for_each(|link| author.say("link", link));
+    if random.chance(5) {
+        author.say(random.pick(&["links", "linked", "link\r", "Link"]), &[0, 1, 0, 64]);
+    }
     (0..random.to(3)).for_each(|_| author.bad_line());
     author.text.extend(b"tick 5\n".repeat(random.to(1) as usize));
     author.text

@@ -39,7 +39,7 @@ use std::io::{Read, Write};
 use std::path::{Path, PathBuf};
 
 // About how many lines `random` plays.
-const LINES: u64 = 100_000;
+const LINES: u64 = 80_000;
 
 fn setting(name: &str, usual: u64) -> u64 {
     std::env::var(name).ok().map_or(usual, |n| n.parse().unwrap_or_else(|_| fail(format!("{name} is not a number"))))

@@ -3,10 +3,10 @@ use crate::driver::Random;
 use crate::reader::lines;
 
 // Words in the place of numbers; the first few are numbers.
-const ODD: [&str; 20] = [
-    "0", "000000000000000000000000000001", "18446744073709551615", "018446744073709551615", "18446744073709551616",
-    "18446744073709551617", "20000000000000000000", "99999999999999999999", "340282366920938463463374607431768211457", "-1", "+1",
-    "1.0", "0x1", "1e3", "1,000", "", "one", "٣", "1_000", "1\t",
+const ODD: [&str; 23] = [
+    "0", "256", "4294967296", "4294967297", "000000000000000000000000000001", "18446744073709551615", "018446744073709551615",
+    "18446744073709551616", "18446744073709551617", "20000000000000000000", "99999999999999999999",
+    "340282366920938463463374607431768211457", "-1", "+1", "1.0", "0x1", "1e3", "1,000", "", "one", "٣", "1_000", "1\t",
 ];
 
 const FIRST: [&str; 12] = ["", "link", "Link", "lin", "links", "open", "offer", "tick", "link\r", "\0", "\u{feff}tick", "tick\t1"];
@@ -39,6 +39,7 @@ impl Random {
             1 => words.insert(at + 1, self.pick(&ODD).as_bytes().to_vec()),
             2 => words.push(self.to(20).to_string().into_bytes()),
             _ if at > 0 => words[at] = self.pick(&ODD).as_bytes().to_vec(),
+            _ if self.chance(2) => words[0].push(self.byte()),
             _ => words[0] = self.pick(&FIRST).as_bytes().to_vec(),
         }
         *line = words.join(&b' ');
