@@ -1,7 +1,7 @@
 // Playing scripts: roomrun against the independent implementation in tests/, in one run.
 //
-//   roomrun DIR PLAY.. -- ROOMRUN..   PLAY and ROOMRUN are commands that read a script and write its listing; scripts and listings
-//                                     are kept in DIR
+//   roomrun DIR PLAY.. -- ROOMRUN..   PLAY and ROOMRUN are commands that read a script and write its listing; scripts and
+//                                     listings are kept in DIR
 //
 // Each script is played by one and the other in turn, a few times over, and the best time of each is printed: lines a second,
 // slots a second and the ratio. Starting the program counts as well. Both listings have to be the same.
@@ -134,7 +134,8 @@ impl Bench {
         let slots: u64 = right.lines().last().and_then(|line| line.strip_prefix("slot ")).map_or(0, |n| n.parse().unwrap());
         println!("{what}, {} lines, {slots} slots, {} lines printed:", script.lines, right.lines().count());
         for (name, seconds) in ["independent Rust", "roomrun"].iter().zip(best) {
-            println!("  {name}: {:.0} lines a second, {:.0} slots a second", script.lines as f64 / seconds, slots as f64 / seconds);
+            let rate = |count: u64| count as f64 / seconds;
+            println!("  {name}: {:.0} lines a second, {:.0} slots a second", rate(script.lines), rate(slots));
         }
         println!("  ratio {:.2}", best[1] / best[0]);
     }

@@ -21,8 +21,8 @@
  *                                    is how many numbers past the sends, in the output and beyond it, are not what they were
  * run LENGTH ROOM COUNT         ->   NUMBER PLACE SLOTS SENDS CHANGED SUM of so many slots, or up to the first that is refused:
  *                                    its number and place, how many ran, the sends of all, and a sum over them in turn
- * tick LENGTH ROOM COUNT        ->   five numbers a send, then NUMBER PLACE SLOTS CHANGED of as many slots; those in which nothing
- *                                    can be sent are skipped
+ * tick LENGTH ROOM COUNT        ->   five numbers a send, then NUMBER PLACE SLOTS CHANGED of so many slots; those in which
+ *                                    nothing can be sent are skipped
  * idle LENGTH                   ->   how many slots no link can send in
  * skip LENGTH COUNT             ->   how many of them were skipped */
 #include "../include/byanghosu.h"

@@ -3,9 +3,9 @@
 //   script play                         the listing of the script on standard input, as those two have it
 //   script worked DIR ROOMRUN..         every DIR/NAME.script, of which DIR/NAME.out is the listing: by ROOMRUN, a command that
 //                                       reads a script and writes its listing, and here
-//   script random ROOMRUN.. -- DRIVER.. random scripts, of which ROOMRUN, the library behind DRIVER (tests/driver.c) and `play` have
-//                                       to make the same listing, byte for byte. LINES=N before the command plays about so many
-//                                       lines, SEED=N makes for others
+//   script random ROOMRUN.. -- DRIVER.. random scripts, of which ROOMRUN, the library behind DRIVER (tests/driver.c) and `play`
+//                                       have to make the same listing, byte for byte. LINES=N before the command plays about so
+//                                       many lines, SEED=N makes for others
 //
 // Scripts are rooms in use, long and short, refused set-ups, the same with lines and bytes changed, and bytes that are no
 // script; they come in pieces of any size. So that nothing can be left out unseen, every refusal that a script can reach and
@@ -120,7 +120,8 @@ fn some_scripts(random: &Random) -> Vec<Vec<u8>> {
 
 // Scripts played three times over; the listings have to be the same.
 fn compare(scripts: &[Vec<u8>], pieces: &[usize], commands: &[&[String]; 2], counts: &mut Counts) {
-    let run = || scripts.iter().zip(pieces).map(|(script, piece)| output(commands[0], script.clone(), *piece)).collect::<Vec<_>>();
+    let one = |(script, piece): (&Vec<u8>, &usize)| output(commands[0], script.clone(), *piece);
+    let run = || scripts.iter().zip(pieces).map(one).collect::<Vec<_>>();
     let (by_roomrun, by_c) = std::thread::scope(|scope| {
         let roomrun = scope.spawn(run);
         let by_c = called::listings(commands[1], scripts);
@@ -161,7 +162,7 @@ fn main() {
             std::io::stdout().write_all(&play(&script).out).unwrap_or_else(|e| fail(format!("no listing: {e}")));
         }
         [[mode, dir, roomrun @ ..]] if mode == "worked" && !roomrun.is_empty() => worked(dir, roomrun),
-        [[mode, roomrun @ ..], driver] if mode == "random" && !roomrun.is_empty() && !driver.is_empty() => random(roomrun, driver),
+        [[mode, roomrun @ ..], driver @ [_, ..]] if mode == "random" && !roomrun.is_empty() => random(roomrun, driver),
         _ => fail("use: script play, script worked DIR ROOMRUN.., or script random ROOMRUN.. -- DRIVER..".to_string()),
     }
 }

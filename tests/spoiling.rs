@@ -9,7 +9,8 @@ const ODD: [&str; 23] = [
     "340282366920938463463374607431768211457", "-1", "+1", "1.0", "0x1", "1e3", "1,000", "", "one", "٣", "1_000", "1\t",
 ];
 
-const FIRST: [&str; 12] = ["", "link", "Link", "lin", "links", "open", "offer", "tick", "link\r", "\0", "\u{feff}tick", "tick\t1"];
+const FIRST: [&str; 12] =
+    ["", "link", "Link", "lin", "links", "open", "offer", "tick", "link\r", "\0", "\u{feff}tick", "tick\t1"];
 
 const LENGTHS: [usize; 12] = [253, 254, 255, 255, 256, 256, 257, 258, 300, 511, 512, 4_096];
 
