@@ -57,8 +57,9 @@ impl<'a> Author<'a> {
     fn bad_line(&mut self) {
         let line = self.random.pick(&[
             "", " ", "link 0 1 0 64", "link", "open", "open 1 2 3", "offer", "offer 0", "offer 0 1 2", "tick", "tick 1 2",
-            "Tick 1", "ticks 1", "stop", "tick -1", "tick +1", "tick 1x", "tick  1", "tick 1 ", " tick 1", "tick 18446744073709551616",
-            "tick\t1", "tick 1\r", "offer 0 1\0", "send 0 0 0 0 0", "open 1 10 10 1  0", "#", "é", "offer 0 one",
+            "Tick 1", "ticks 1", "stop", "tick -1", "tick +1", "tick 1x", "tick  1", "tick 1 ", " tick 1",
+            "tick 18446744073709551616", "tick\t1", "tick 1\r", "offer 0 1\0", "send 0 0 0 0 0",
+            "open 1 10 10 1  0", "#", "é", "offer 0 one",
         ]);
         self.line(line);
     }
