@@ -1,7 +1,7 @@
 // Scripts and their listings: roomrun, and the library from C, against tests/reader.rs and tests/listing.rs.
 //
 //   script play                         the listing of the script on standard input, as those two have it
-//   script worked DIR ROOMRUN..         every DIR/NAME.script, of which DIR/NAME.out is the listing: by ROOMRUN, a command that
+//   script worked DIR ROOMRUN..         every DIR/NAME.script, of which DIR/NAME.listing is the listing: by ROOMRUN, a command that
 //                                       reads a script and writes its listing, and here
 //   script random ROOMRUN.. -- DRIVER.. random scripts, of which ROOMRUN, the library behind DRIVER (tests/driver.c) and `play`
 //                                       have to make the same listing, byte for byte. LINES=N before the command plays about so
@@ -90,11 +90,11 @@ fn with_extension(dir: &str, extension: &str) -> Vec<PathBuf> {
 
 fn worked(dir: &str, roomrun: &[String]) {
     let scripts = with_extension(dir, "script");
-    if scripts.is_empty() || scripts.len() != with_extension(dir, "out").len() {
+    if scripts.is_empty() || scripts.len() != with_extension(dir, "listing").len() {
         fail(format!("{dir} should have scripts, and a listing for each"));
     }
     for path in &scripts {
-        let (script, right) = (read(path), read(&path.with_extension("out")));
+        let (script, right) = (read(path), read(&path.with_extension("listing")));
         let name = path.display().to_string();
         hold_against(&script, &right, &play(&script).out, &format!("{name}: tests/listing.rs"));
         // here the file itself is the standard input, as an operator has it
