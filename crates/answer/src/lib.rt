@@ -8,6 +8,7 @@ ghost use lib.ListN.{length};
 ghost use Rattle.decimal.specs.Put.{putAt};
 ghost use Rattle.opening.specs.Open.{openAnswer, openStore};
 ghost use Rattle.traffic.specs.Offer.{offerAnswer, offerStore};
+ghost use Rattle.listing.specs.Buffer.{lastForLine};
 ghost use Rattle.listing.specs.Listing.{refusedLine, badLine};
 ghost use Rattle.answer.specs.Answer.{requestIn, openOut, offerOut, askedStore, askedOut, asksOf};
 
@@ -21,7 +22,7 @@ pub fn put_refused(out: &mut [u8], at: usize, number: u64, place: u64) -> usize
 }
 
 pub fn put_bad(out: &mut [u8; 65536], at: usize, count: u64) -> usize
-    requires { ⌜ at ≤ 65_000 ⌝ }
+    requires { ⌜ at ≤ lastForLine ⌝ }
     ensures { λ r. ⌜ r ≡ at + length (badLine count) ⌝ }
     ensures { λ _. ⌜ now (out .exit) ≡ putAt (now (out .entry)) at (badLine count) ⌝ }
 {
@@ -37,7 +38,7 @@ fn open(
     at: usize,
 ) -> usize
     requires { ⌜ 4 + hops ≤ length (now numbers) ⌝ }
-    requires { ⌜ at ≤ 65_000 ⌝ }
+    requires { ⌜ at ≤ lastForLine ⌝ }
     ensures { λ r. ⌜ r ≡ at + length (openOut (openAnswer (now (store .entry)) (requestIn (now (numbers .entry)) hops)) hops) ⌝ }
     ensures { λ _. ⌜ now (store .exit) ≡ openStore (now (store .entry)) (requestIn (now (numbers .entry)) hops) ⌝ }
     ensures { λ _. ⌜ now (out .exit)
@@ -70,7 +71,7 @@ fn offer(
     out: &mut [u8; 65536],
     at: usize,
 ) -> usize
-    requires { ⌜ at ≤ 65_000 ⌝ }
+    requires { ⌜ at ≤ lastForLine ⌝ }
     ensures { λ r. ⌜ r ≡ at + length (offerOut (offerAnswer (now (store .entry)) channel packets) channel) ⌝ }
     ensures { λ _. ⌜ now (store .exit) ≡ offerStore (now (store .entry)) channel packets ⌝ }
     ensures { λ _. ⌜ now (out .exit)
@@ -96,7 +97,7 @@ pub fn answer(
     at: usize,
 ) -> usize
     requires { ⌜ asksOf asked ≤ 128 ⌝ }
-    requires { ⌜ at ≤ 65_000 ⌝ }
+    requires { ⌜ at ≤ lastForLine ⌝ }
     ensures { λ r. ⌜ r ≡ at + length (askedOut (now (store .entry)) asked (now (numbers .entry)) count) ⌝ }
     ensures { λ _. ⌜ now (store .exit) ≡ askedStore (now (store .entry)) asked (now (numbers .entry)) ⌝ }
     ensures { λ _. ⌜ now (out .exit)

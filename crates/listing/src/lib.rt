@@ -10,6 +10,9 @@ ghost use Rattle.listing.specs.Listing.{lineOf, sendLinesIn, share as Li
 
 const LINE_FEED: u8 = b'\n';
 
+// The last place in the buffer of bytes from which all that a slot writes fits into it.
+pub const LAST_FOR_SLOT: usize = 63_776;
+
 fn put_text(out: &mut [u8], at: usize, text: &[u8]) -> usize
     requires { ⌜ at + length (now text) ≤ length (now out) ⌝ }
     ensures { λ r. ⌜ r ≡ at + length (now (text .entry)) ⌝ }

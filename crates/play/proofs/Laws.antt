@@ -10,6 +10,7 @@ use Rattle.room.specs.Layout.{Store}
 use Rattle.script.specs.declared.Line.{Line as Asked}
 use Rattle.script.specs.declared.Line.the-variants.{Bad, Link, Open, Offer, Tick}
 use Rattle.script.specs.Line.{readLine, numbersOf, isLink}
+use Rattle.listing.specs.Buffer.{bufferLength, lastForSlot}
 use Rattle.answer.proofs.Laws.{bad-length, asked-length}
 use Rattle.play.specs.declared.Phase.{Phase}
 use Rattle.play.specs.declared.Phase.the-variants.{Before, Running, Over}
@@ -61,10 +62,10 @@ ended-length Running w links = omega arith
 ended-length Over w links = omega arith
 
 -- and fits into the buffer
-pub ended-fits : (phase : Phase) (w : Store) (links : List ℕ) (at r : ℕ) → at ≤ 63_776
-    → r ≡ at + length (ended phase w links .out) → r ≤ 65_536
+pub ended-fits : (phase : Phase) (w : Store) (links : List ℕ) (at r : ℕ) → at ≤ lastForSlot
+    → r ≡ at + length (ended phase w links .out) → r ≤ bufferLength
 ended-fits phase w links at r h e = omega (arith, e, ended-length phase w links)
 
-pub played-fits : (phase : Phase) (w : Store) (links : List ℕ) (text : Text) (count at : ℕ) (r : Played) → at ≤ 63_776
-    → r ≡ playedAt at (played phase w links text count) → r .at ≤ 65_536
+pub played-fits : (phase : Phase) (w : Store) (links : List ℕ) (text : Text) (count at : ℕ) (r : Played) → at ≤ lastForSlot
+    → r ≡ playedAt at (played phase w links text count) → r .at ≤ bufferLength
 played-fits phase w links text count at r h p = rw p (omega (arith, played-length phase w links text count))

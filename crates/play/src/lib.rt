@@ -6,6 +6,7 @@ ghost use mathlib.Core.List.{[]};
 ghost use Prim.Native.Nat.{_+_, _≤_, min};
 ghost use lib.ListN.{length};
 ghost use Rattle.decimal.specs.Put.{putAt};
+ghost use Rattle.listing.specs.Buffer.{lastForLine, lastForSlot};
 ghost use Rattle.answer.specs.Answer.{asksOf};
 ghost use Rattle.play.specs.Play.{nextOf, answered, started, mostKept, kept, counted};
 ghost use Rattle.play.specs.Play.{linkHeard, linksHeard, played, playedLinks, ended};
@@ -54,7 +55,7 @@ fn answer_line(
     at: usize,
 ) -> Played
     requires { ⌜ asksOf asked ≤ 128 ⌝ }
-    requires { ⌜ at ≤ 65_000 ⌝ }
+    requires { ⌜ at ≤ lastForLine ⌝ }
     ensures { λ r. ⌜ r ≡ playedAt at (answered (now (store .entry)) asked (now (numbers .entry)) count) ⌝ }
     ensures { λ _. ⌜ now (store .exit) ≡ answered (now (store .entry)) asked (now (numbers .entry)) count .store ⌝ }
     ensures { λ _. ⌜ now (out .exit)
@@ -137,7 +138,7 @@ fn hear_link(
     out: &mut [u8; 65536],
     at: usize,
 ) -> Played
-    requires { ⌜ at ≤ 65_000 ⌝ }
+    requires { ⌜ at ≤ lastForLine ⌝ }
     ensures { λ r. ⌜ r ≡ playedAt at (linkHeard [] n asked count) ⌝ }
     ensures { λ _. ⌜ now (links .exit) ≡ linksHeard (now (links .entry)) n asked (now (numbers .entry)) ⌝ }
     ensures { λ _. ⌜ now (out .exit) ≡ putAt (now (out .entry)) at (linkHeard [] n asked count .out) ⌝ }
@@ -168,7 +169,7 @@ pub fn line(
     out: &mut [u8; 65536],
     at: usize,
 ) -> Played
-    requires { ⌜ at ≤ 63_776 ⌝ }
+    requires { ⌜ at ≤ lastForSlot ⌝ }
     ensures { λ r. ⌜ r ≡ playedAt at (played phase (now (store .entry)) (now (links .entry)) (now (text .entry)) count) ⌝ }
     ensures { λ _. ⌜ now (store .exit)
         ≡ played phase (now (store .entry)) (now (links .entry)) (now (text .entry)) count .store ⌝ }
@@ -207,7 +208,7 @@ pub fn finish(
     out: &mut [u8; 65536],
     at: usize,
 ) -> usize
-    requires { ⌜ at ≤ 63_776 ⌝ }
+    requires { ⌜ at ≤ lastForSlot ⌝ }
     ensures { λ r. ⌜ r ≡ at + length (ended phase (now (store .entry)) (now (links .entry)) .out) ⌝ }
     ensures { λ _. ⌜ now (store .exit) ≡ ended phase (now (store .entry)) (now (links .entry)) .store ⌝ }
     ensures { λ _. ⌜ now (out .exit)

@@ -3,17 +3,16 @@
 // full. docs/SCRIPT.md is the operator's reference.
 use libc::STDIN_FILENO;
 use libc::STDOUT_FILENO;
+use listing::LAST_FOR_SLOT;
 use play::Next;
 use play::Phase;
 use run::Run;
 ghost use mathlib.Core.Path.{_≡_};
 ghost use Prim.Native.Nat.{_≤_};
 ghost use lib.ListN.{length};
+ghost use Rattle.listing.specs.Buffer.{bufferLength, lastForSlot};
 ghost use Rattle.lines.specs.Lines.{mostKept};
 ghost use Rattle.play.specs.declared.Next.the-variants.{Line};
-
-// The last place in the buffer from which what a step writes fits into it.
-const FULL: usize = 63_776;
 
 // Writes out what stands in the buffer up to `end`.
 fn write_out(out: &[u8], end: usize)
@@ -25,9 +24,9 @@ fn write_out(out: &[u8], end: usize)
 // Writes out what stands in the buffer, if little room is left: where the listing goes on in it.
 fn make_room(out: &[u8], at: usize) -> usize
     requires { ⌜ at ≤ length (now out) ⌝ }
-    ensures { λ r. ⌜ r ≤ 63_776 ⌝ }
+    ensures { λ r. ⌜ r ≤ lastForSlot ⌝ }
 {
-    if at <= FULL {
+    if at <= LAST_FOR_SLOT {
         return at;
     }
     write_out(out, at);
@@ -36,10 +35,10 @@ fn make_room(out: &[u8], at: usize) -> usize
 
 // Runs the slots of a `tick`, if that comes next.
 fn play_slots(store: &mut [u64; 65536], run: Run, out: &mut [u8; 65536]) -> Run
-    requires { ⌜ run .at ≤ 65_536 ⌝ }
+    requires { ⌜ run .at ≤ bufferLength ⌝ }
     ensures { λ r. ⌜ r .next ≡ Line ⌝ }
     ensures { λ r. ⌜ (r .length ≡ run .length) × (r .from ≡ run .from) ⌝ }
-    ensures { λ r. ⌜ r .at ≤ 65_536 ⌝ }
+    ensures { λ r. ⌜ r .at ≤ bufferLength ⌝ }
 {
     let mut after = run;
     loop {
@@ -64,10 +63,10 @@ fn play_chunk(
     requires { ⌜ length (now text) ≡ mostKept ⌝ }
     requires { ⌜ run .next ≡ Line ⌝ }
     requires { ⌜ run .length ≤ mostKept ⌝ }
-    requires { ⌜ run .at ≤ 65_536 ⌝ }
+    requires { ⌜ run .at ≤ bufferLength ⌝ }
     ensures { λ r. ⌜ r .next ≡ Line ⌝ }
     ensures { λ r. ⌜ r .length ≤ mostKept ⌝ }
-    ensures { λ r. ⌜ r .at ≤ 65_536 ⌝ }
+    ensures { λ r. ⌜ r .at ≤ bufferLength ⌝ }
 {
     let mut after = run;
     after.from = 0;
@@ -90,7 +89,7 @@ fn play_all(
     requires { ⌜ length (now text) ≡ mostKept ⌝ }
     ensures { λ r. ⌜ r .next ≡ Line ⌝ }
     ensures { λ r. ⌜ r .length ≤ mostKept ⌝ }
-    ensures { λ r. ⌜ r .at ≤ 65_536 ⌝ }
+    ensures { λ r. ⌜ r .at ≤ bufferLength ⌝ }
 {
     let mut input = io::large_buffer();
     let mut run = Run {
@@ -125,8 +124,8 @@ fn play_last(
     requires { ⌜ length (now text) ≡ mostKept ⌝ }
     requires { ⌜ run .next ≡ Line ⌝ }
     requires { ⌜ run .length ≤ mostKept ⌝ }
-    requires { ⌜ run .at ≤ 65_536 ⌝ }
-    ensures { λ r. ⌜ r .at ≤ 65_536 ⌝ }
+    requires { ⌜ run .at ≤ bufferLength ⌝ }
+    ensures { λ r. ⌜ r .at ≤ bufferLength ⌝ }
 {
     if run.length == 0 {
         return run;
@@ -136,7 +135,7 @@ fn play_last(
 
 // The end of the script, and of the listing.
 fn play_end(store: &mut [u64; 65536], links: &[u64; 68], run: Run, out: &mut [u8; 65536])
-    requires { ⌜ run .at ≤ 65_536 ⌝ }
+    requires { ⌜ run .at ≤ bufferLength ⌝ }
 {
     let phase = run.phase;
     let at = make_room(out, run.at);

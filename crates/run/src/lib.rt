@@ -8,6 +8,7 @@ ghost use Prim.Native.Nat.{ℕ, _+_, _≤_, _<_};
 ghost use lib.ListN.{length, take, drop};
 ghost use Rattle.decimal.specs.Decimal.{Text};
 ghost use Rattle.decimal.specs.Put.{putAt, partOf};
+ghost use Rattle.listing.specs.Buffer.{bufferLength, lastForSlot};
 ghost use Rattle.lines.specs.Lines.{mostKept};
 ghost use Rattle.play.specs.declared.Next.the-variants.{Line, Slots};
 ghost use Rattle.run.specs.Listing.{counted, pending, lineOut, restOut};
@@ -35,13 +36,13 @@ fn count(lines: u64) -> u64
 // Slots of a `tick`, all of them or as many as the buffer has room for.
 pub fn slots(store: &mut [u64; 65536], left: u64, run: Run, out: &mut [u8; 65536]) -> Run
     requires { ⌜ run .next ≡ Slots left ⌝ }
-    requires { ⌜ run .at ≤ 63_776 ⌝ }
+    requires { ⌜ run .at ≤ lastForSlot ⌝ }
     ensures { λ r. ⌜ ((links : List ℕ) → (before : Text) → (rest : Text)
         → restOut (run .phase) (run .next) (now (store .entry)) links (run .lines) before rest
         ≡ partOf (now (out .exit)) (run .at) (r .at)
         ++ restOut (r .phase) (r .next) (now (store .exit)) links (r .lines) before rest) ⌝ }
     ensures { λ r. ⌜ take (run .at) (now (out .exit)) ≡ take (run .at) (now (out .entry)) ⌝ }
-    ensures { λ r. ⌜ (run .at ≤ r .at) × (r .at ≤ 65_536) ⌝ }
+    ensures { λ r. ⌜ (run .at ≤ r .at) × (r .at ≤ bufferLength) ⌝ }
     ensures { λ r. ⌜ (r .length ≡ run .length) × (r .from ≡ run .from) ⌝ }
     ensures { λ r. ⌜ pending (r .next) < pending (run .next) ⌝ }
 {
@@ -80,7 +81,7 @@ pub fn line(
     requires { ⌜ length (now text) ≡ mostKept ⌝ }
     requires { ⌜ run .length ≤ mostKept ⌝ }
     requires { ⌜ run .from < length (now chunk) ⌝ }
-    requires { ⌜ run .at ≤ 63_776 ⌝ }
+    requires { ⌜ run .at ≤ lastForSlot ⌝ }
     ensures { λ r. ⌜ ((more : Text)
         → restOut (run .phase) (run .next) (now (store .entry)) (now (links .entry)) (run .lines)
         (take (run .length) (now (text .entry))) (drop (run .from) (now (chunk .entry)) ++ more)
@@ -93,7 +94,7 @@ pub fn line(
         (take (run .length) (now (text .entry))) (drop (run .from) (now (chunk .entry)))) ⌝ }
     ensures { λ r. ⌜ r .at ≡ run .at + length (lineOut (run .phase) (now (store .entry)) (now (links .entry)) (run .lines)
         (take (run .length) (now (text .entry))) (drop (run .from) (now (chunk .entry)))) ⌝ }
-    ensures { λ r. ⌜ r .at ≤ 65_536 ⌝ }
+    ensures { λ r. ⌜ r .at ≤ bufferLength ⌝ }
     ensures { λ r. ⌜ r .length ≤ mostKept ⌝ }
     ensures { λ r. ⌜ (run .from < r .from) × (r .from ≤ length (now (chunk .entry))) ⌝ }
 {

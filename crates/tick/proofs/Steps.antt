@@ -15,6 +15,7 @@ use Rattle.slot.proofs.Laws.{Ends}
 use Rattle.listing.specs.Listing.{refusedWord, sendLines, refusedLine, sendLinesIn}
 use Rattle.listing.proofs.Laws.Lengths.{line-length, sends-length}
 use Rattle.listing.proofs.Laws.Sends.{sends-listed}
+use Rattle.listing.specs.Buffer.{bufferLength, lastForSlot}
 use Rattle.tick.specs.Tick.{sendRoom, tickOut, tickStore}
 use Rattle.tick.proofs.Laws.Turns.{number-ran, number-refused, ran-out, ran-store, ran-sends, ran-links}
 use Rattle.tick.proofs.Laws.Turns.{refused-out, refused-store}
@@ -25,7 +26,7 @@ abbrev pub Goes : (w : Store) → (left : ℕ) → (out : List ℕ) → (at : �
     → (end : ℕ) → Type 0
 Goes w left out at later rest full end =
     (tickOut w left ≡ partOf full at end ++ tickOut later rest) × ((tickStore w left ≡ tickStore later rest)
-    × ((take at full ≡ take at out) × (((at ≤ end) × (end ≤ 65536)) × (rest < left))))
+    × ((take at full ≡ take at out) × (((at ≤ end) × (end ≤ bufferLength)) × (rest < left))))
 
 pub part-none : (all : List ℕ) (at : ℕ) → partOf all at at ≡ []
 unfolding partOf
@@ -33,8 +34,8 @@ part-none all at = let e : at - at ≡ 0 = omega arith in rw e
 
 -- a step that writes `text`
 goes : (w : Store) (left : ℕ) (out : List ℕ) (at : ℕ) (text : Text) (later : Store) (rest : ℕ)
-    → tickOut w left ≡ text ++ tickOut later rest → tickStore w left ≡ tickStore later rest → at + length text ≤ 65536
-    → rest < left → (full : List ℕ) (end : ℕ) → length out ≡ 65536 → full ≡ putAt out at text → end ≡ at + length text
+    → tickOut w left ≡ text ++ tickOut later rest → tickStore w left ≡ tickStore later rest → at + length text ≤ bufferLength
+    → rest < left → (full : List ℕ) (end : ℕ) → length out ≡ bufferLength → full ≡ putAt out at text → end ≡ at + length text
     → Goes w left out at later rest full end
 goes w left out at text later rest listed stored room less full end size put ends =
     let h : at + length text ≤ length out = omega arith in (
@@ -56,8 +57,8 @@ module _ (w : Store) (lent : List ℕ) (wide : length lent ≡ sendRoom) (count 
     stays : later ≡ w
     stays = s .1 .0 ∙ rw (wide, refused)
 
-    module _ (left : ℕ) (some : 0 < left) (out : List ℕ) (at : ℕ) (fits : at ≤ 63776) where
-      pub step-refused : (full : List ℕ) (end : ℕ) → length out ≡ 65536 → full ≡ putAt out at (refusedLine number place)
+    module _ (left : ℕ) (some : 0 < left) (out : List ℕ) (at : ℕ) (fits : at ≤ lastForSlot) where
+      pub step-refused : (full : List ℕ) (end : ℕ) → length out ≡ bufferLength → full ≡ putAt out at (refusedLine number place)
           → end ≡ at + length (refusedLine number place) → Goes w left out at later 0 full end
       step-refused =
           let n : left ≡ suc (left - 1) = omega arith in
@@ -83,7 +84,7 @@ module _ (w : Store) (lent : List ℕ) (wide : length lent ≡ sendRoom) (count 
     lines : sendLinesIn sent count ≡ sendLines (slotSends w)
     lines = rw (s .1 .1 .0, sends-all, wide, ran) (sends-listed (slotSends w) lent)
 
-    module _ (left : ℕ) (some : 0 < left) (out : List ℕ) (at : ℕ) (fits : at ≤ 63776) where
+    module _ (left : ℕ) (some : 0 < left) (out : List ℕ) (at : ℕ) (fits : at ≤ lastForSlot) where
       listed : tickOut w left ≡ sendLinesIn sent count ++ tickOut later (left - 1)
       listed =
           let n : left ≡ suc (left - 1) = omega arith in
@@ -94,7 +95,7 @@ module _ (w : Store) (lent : List ℕ) (wide : length lent ≡ sendRoom) (count 
           let n : left ≡ suc (left - 1) = omega arith in
           rw moved-on (ap (tickStore w) n ∙ ran-store w ran (left - 1))
 
-      pub step-sent : (full : List ℕ) (end : ℕ) → length out ≡ 65536 → full ≡ putAt out at (sendLinesIn sent count)
+      pub step-sent : (full : List ℕ) (end : ℕ) → length out ≡ bufferLength → full ≡ putAt out at (sendLinesIn sent count)
           → end ≡ at + length (sendLinesIn sent count) → Goes w left out at later (left - 1) full end
       step-sent =
           goes w left out at (sendLinesIn sent count) later (left - 1) listed stored

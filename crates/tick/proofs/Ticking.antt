@@ -12,6 +12,7 @@ use Rattle.decimal.proofs.Laws.Put.{take-put, part-put, part-more}
 use Rattle.room.specs.Layout.{Store, clockOf}
 use Rattle.listing.specs.Listing.{slotWord, slotLine}
 use Rattle.listing.proofs.Laws.Lengths.{line-length}
+use Rattle.listing.specs.Buffer.{bufferLength, lastForSlot}
 use Rattle.tick.specs.Tick.{tickOut, tickStore, restOut, restStore}
 use Rattle.tick.proofs.Steps.{Goes, part-none}
 
@@ -34,19 +35,19 @@ pub record Ticking (first : Store) (slots : ℕ) (old : List ℕ) (at : ℕ) (w 
   pub stored : tickStore first slots ≡ tickStore w left
   pub front : take at out ≡ take at old
   pub from : at ≤ end
-  pub room : end ≤ 65536
+  pub room : end ≤ bufferLength
   pub few : left ≤ slots
-  pub less : 63776 < end → left < slots
+  pub less : lastForSlot < end → left < slots
 
 -- What a tick ends with: as `Goes` has it, and the tick is over or not.
 abbrev pub Piece : (first : Store) → (slots : ℕ) → (old : List ℕ) → (at : ℕ) → (over : Bool) → (w : Store) → (out : List ℕ)
     → (end left : ℕ) → Type 0
 Piece first slots old at over w out end left =
     (tickOut first slots ≡ partOf out at end ++ restOut over w left) × ((tickStore first slots ≡ restStore over w left)
-    × ((take at out ≡ take at old) × (((at ≤ end) × (end ≤ 65536)) × (over ≡ false → left < slots))))
+    × ((take at out ≡ take at old) × (((at ≤ end) × (end ≤ bufferLength)) × (over ≡ false → left < slots))))
 
 module _ (first : Store) (slots : ℕ) (old : List ℕ) (at : ℕ) where
-  pub ticking-none : at ≤ 63776 → Ticking first slots old at first old at slots
+  pub ticking-none : at ≤ lastForSlot → Ticking first slots old at first old at slots
   ticking-none h = record {
     listed = rw (part-none old at);
     stored = refl;
@@ -86,11 +87,11 @@ module _ (first : Store) (slots : ℕ) (old : List ℕ) (at : ℕ) where
         }
 
     -- the buffer is full
-    pub ticking-full : 63776 < end → Piece first slots old at false w out end left
+    pub ticking-full : lastForSlot < end → Piece first slots old at false w out end left
     ticking-full h = (t .listed, (t .stored, (t .front, ((t .from, t .room), λ e. t .less h))))
 
     -- no slot is left
-    module _ (none : left ≡ 0) (size : length out ≡ 65536) (h : end ≤ 63776) where
+    module _ (none : left ≡ 0) (size : length out ≡ bufferLength) (h : end ≤ lastForSlot) where
       last-line : tickOut w left ≡ slotLine (clockOf w)
       unfolding tickOut
       last-line = rw none

@@ -1,5 +1,6 @@
 // A `tick` line: slots are run, one after the other, and their sends written. A tick may write more than the buffer holds, so it
 // is run piece by piece. Slots in which nothing can be sent are skipped, however many there are.
+use listing::LAST_FOR_SLOT;
 use room::head;
 ghost use mathlib.Core.Path.{_≡_};
 ghost use mathlib.Core.Bool.{false};
@@ -7,6 +8,7 @@ ghost use mathlib.Core.List.{_++_};
 ghost use Prim.Native.Nat.{_≤_, _<_};
 ghost use lib.ListN.{take};
 ghost use Rattle.decimal.specs.Put.{partOf};
+ghost use Rattle.listing.specs.Buffer.{bufferLength, lastForSlot};
 ghost use Rattle.tick.specs.Tick.{tickOut, tickStore, restOut, restStore};
 
 // Where the listing goes on in the buffer, and how many slots are left.
@@ -22,18 +24,15 @@ pub struct Ticked {
     pub over: bool,
 }
 
-// The last place from which what a slot writes fits into the buffer: 16 sends of at most 110 bytes.
-const FULL: usize = 63_776;
-
 // One slot, and after one that sent nothing those in which nothing can be sent; a slot that is refused is the last.
 fn step(store: &mut [u64; 65536], left: u64, out: &mut [u8; 65536], at: usize) -> Stepped
     requires { ⌜ 0 < left ⌝ }
-    requires { ⌜ at ≤ 63_776 ⌝ }
+    requires { ⌜ at ≤ lastForSlot ⌝ }
     ensures { λ r. ⌜ tickOut (now (store .entry)) left
         ≡ partOf (now (out .exit)) at (r .at) ++ tickOut (now (store .exit)) (r .left) ⌝ }
     ensures { λ r. ⌜ tickStore (now (store .entry)) left ≡ tickStore (now (store .exit)) (r .left) ⌝ }
     ensures { λ r. ⌜ take at (now (out .exit)) ≡ take at (now (out .entry)) ⌝ }
-    ensures { λ r. ⌜ (at ≤ r .at) × (r .at ≤ 65536) ⌝ }
+    ensures { λ r. ⌜ (at ≤ r .at) × (r .at ≤ bufferLength) ⌝ }
     ensures { λ r. ⌜ r .left < left ⌝ }
 {
     let mut sends = [0u64; 80];
@@ -64,17 +63,17 @@ fn step(store: &mut [u64; 65536], left: u64, out: &mut [u8; 65536], at: usize) -
 // Runs slots until the tick is over or the buffer is full. What this writes, and then what the rest of the tick writes, is what
 // the tick writes.
 pub fn tick(store: &mut [u64; 65536], slots: u64, out: &mut [u8; 65536], at: usize) -> Ticked
-    requires { ⌜ at ≤ 63_776 ⌝ }
+    requires { ⌜ at ≤ lastForSlot ⌝ }
     ensures { λ r. ⌜ tickOut (now (store .entry)) slots
         ≡ partOf (now (out .exit)) at (r .at) ++ restOut (r .over) (now (store .exit)) (r .left) ⌝ }
     ensures { λ r. ⌜ tickStore (now (store .entry)) slots ≡ restStore (r .over) (now (store .exit)) (r .left) ⌝ }
     ensures { λ r. ⌜ take at (now (out .exit)) ≡ take at (now (out .entry)) ⌝ }
-    ensures { λ r. ⌜ (at ≤ r .at) × (r .at ≤ 65536) ⌝ }
+    ensures { λ r. ⌜ (at ≤ r .at) × (r .at ≤ bufferLength) ⌝ }
     ensures { λ r. ⌜ (r .over ≡ false → r .left < slots) ⌝ }
 {
     let mut end = at;
     let mut left = slots;
-    while end <= FULL {
+    while end <= LAST_FOR_SLOT {
         if left == 0 {
             let clock = [head::clock(store)];
             let last = listing::line(out, end, b"slot", &clock);

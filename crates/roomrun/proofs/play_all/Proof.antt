@@ -4,6 +4,7 @@ use mathlib.Core.Path.{_≡_, refl, sym, _∙_}
 use native.Mathlib.Omega.{arith}
 use borrow.Author.Needs.{needs}
 use lib.ListN.{length}
+use Rattle.listing.specs.Buffer.{bufferLength}
 use Rattle.lines.specs.Lines.{mostKept}
 use Rattle.play.specs.declared.Next.the-variants.{Line}
 use Rattle.roomrun.proofs.play_all.Statement.{statement}
@@ -11,7 +12,7 @@ use Rattle.roomrun.proofs.play_all.Tie as tie
 
 abbrev Inv-loop : tie.InvT-loop
 Inv-loop store₀ links₀ text₀ out₀ input₀ run₀ reads₀ store links text out input run reads =
-    (length text ≡ mostKept) × ((65_536 ≡ length input) × ((run .next ≡ Line) × ((run .length ≤ mostKept) × (run .at ≤ 65_536))))
+    (length text ≡ mostKept) × ((65_536 ≡ length input) × ((run .next ≡ Line) × ((run .length ≤ mostKept) × (run .at ≤ bufferLength))))
 
 abbrev μ-loop : tie.MeasureT-loop
 μ-loop store₀ links₀ text₀ out₀ input₀ run₀ reads₀ store links text out input run reads = reads

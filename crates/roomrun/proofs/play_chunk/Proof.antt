@@ -3,6 +3,7 @@ use Prim.Native.Nat.{_-_, _≤_}
 use mathlib.Core.Path.{_≡_, sym, _∙_}
 use native.Mathlib.Omega.{arith}
 use lib.ListN.{length}
+use Rattle.listing.specs.Buffer.{bufferLength}
 use Rattle.lines.specs.Lines.{mostKept}
 use Rattle.play.specs.declared.Next.the-variants.{Line}
 use Rattle.roomrun.proofs.play_chunk.Statement.{statement}
@@ -10,7 +11,7 @@ use Rattle.roomrun.proofs.play_chunk.Tie as tie
 
 abbrev Inv-loop : tie.InvT-loop
 Inv-loop store₀ links₀ text₀ chunk out₀ after₀ store links text out after =
-    (length text ≡ mostKept) × ((after .next ≡ Line) × ((after .length ≤ mostKept) × (after .at ≤ 65_536)))
+    (length text ≡ mostKept) × ((after .next ≡ Line) × ((after .length ≤ mostKept) × (after .at ≤ bufferLength)))
 
 abbrev μ-loop : tie.MeasureT-loop
 μ-loop store₀ links₀ text₀ chunk out₀ after₀ store links text out after = length chunk - after .from

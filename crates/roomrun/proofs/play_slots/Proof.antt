@@ -3,13 +3,14 @@ use Prim.Native.Nat.{_≤_}
 use mathlib.Core.Path.{_≡_, refl, _∙_}
 use native.Mathlib.Omega.{arith}
 use borrow.Author.Needs.{needs}
+use Rattle.listing.specs.Buffer.{bufferLength}
 use Rattle.run.specs.Listing.{pending}
 use Rattle.roomrun.proofs.play_slots.Statement.{statement}
 use Rattle.roomrun.proofs.play_slots.Tie as tie
 
 abbrev Inv-loop : tie.InvT-loop
 Inv-loop store₀ out₀ after₀ store out after =
-    (after .length ≡ after₀ .length) × ((after .from ≡ after₀ .from) × (after .at ≤ 65_536))
+    (after .length ≡ after₀ .length) × ((after .from ≡ after₀ .from) × (after .at ≤ bufferLength))
 
 abbrev μ-loop : tie.MeasureT-loop
 μ-loop store₀ out₀ after₀ store out after = pending (after .next)
