@@ -1,3 +1,4 @@
+pub mod Laws
 mod Cut
 mod Rest
 mod Steps
