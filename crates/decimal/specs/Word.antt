@@ -11,6 +11,9 @@ use Rattle.decimal.specs.Decimal.{Text, isNumber, valueOf}
 abbrev pub space : ℕ
 space = 32
 
+abbrev pub lineFeed : ℕ
+lineFeed = 10
+
 unfoldable pub firstWord : Text → Text
 firstWord [] = []
 firstWord (b ∷ rest) = elim (eqb b space) [ true ↦ [] | false ↦ b ∷ firstWord rest ]

@@ -9,7 +9,8 @@ use borrow.Author.Tests.{eq-eqb, ne-eqb}
 use lib.Dec.{eqb}
 use lib.ListN.{length, take, drop, set, getD, drop-of-length-le, length-set, length-take}
 use lib.Seq.{drop-cons, take-suc-set, take-append-le, take-all}
-use Rattle.lines.specs.Lines.{lineFeed, ahead, feedAhead, feedBytes, mostKept}
+use Rattle.decimal.specs.Word.{lineFeed}
+use Rattle.lines.specs.Lines.{ahead, feedAhead, feedBytes, mostKept}
 
 pub ahead-feed : (b : ℕ) (rest : List ℕ) → eqb b lineFeed ≡ true → (ahead (b ∷ rest) ≡ []) × (feedAhead (b ∷ rest) ≡ true)
 unfolding ahead feedAhead

@@ -7,7 +7,8 @@ use native.Mathlib.Omega.{arith}
 use lib.Dec.{eqb}
 use lib.ListN.{length, drop}
 use Rattle.decimal.specs.Decimal.{Text}
-use Rattle.lines.specs.Lines.{lineFeed, linesFrom, ahead, feedAhead, feedBytes}
+use Rattle.decimal.specs.Word.{lineFeed}
+use Rattle.lines.specs.Lines.{linesFrom, ahead, feedAhead, feedBytes}
 use Rattle.lines.proofs.Gathering.{ahead-feed, ahead-other, ahead-none}
 
 -- one byte more: a line feed, or another

@@ -4,9 +4,7 @@ use mathlib.Core.Bool.{Bool, true, false}
 use mathlib.Core.List.{List, [], _∷_, _++_}
 use lib.Dec.{eqb}
 use Rattle.decimal.specs.Decimal.{Text}
-
-abbrev pub lineFeed : ℕ
-lineFeed = 10
+use Rattle.decimal.specs.Word.{lineFeed}
 
 -- the lines of a text, `before` having come since the last line feed. Nothing after the last line feed is no line.
 unfoldable pub linesFrom : (before : Text) → Text → List Text

@@ -5,11 +5,11 @@ use mathlib.Core.List.{List, [], _∷_, _++_, append-assoc}
 use native.Mathlib.Omega.{arith}
 use lib.ListN.{length, set}
 use Rattle.decimal.specs.Decimal.{Text, decimal}
-use Rattle.decimal.specs.Word.{space}
+use Rattle.decimal.specs.Word.{space, lineFeed}
 use Rattle.decimal.specs.Put.{putAt}
 use Rattle.decimal.proofs.Laws.Decimal.{decimal-length}
 use Rattle.script.specs.Phrase.{phrase}
-use Rattle.listing.specs.Listing.{channelWord, lineFeed, slash, lineOf, share, sharesTo, channelLine}
+use Rattle.listing.specs.Listing.{channelWord, slash, lineOf, share, sharesTo, channelLine}
 use Rattle.listing.proofs.Laws.Lengths.{phrase-length, shares-length}
 use Rattle.listing.proofs.Putting.{Putting, putting-none, putting-size, putting-more, putting-byte, putting-as}
 

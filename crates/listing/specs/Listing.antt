@@ -2,7 +2,7 @@
 use Prim.Native.Nat.{ℕ, zero, suc, _+_, _*_}
 use mathlib.Core.List.{List, [], _∷_, _++_}
 use Rattle.decimal.specs.Decimal.{Text, decimal}
-use Rattle.decimal.specs.Word.{space}
+use Rattle.decimal.specs.Word.{space, lineFeed}
 use Rattle.room.specs.Layout.{numberAt}
 use Rattle.script.specs.Phrase.{phrase}
 use Rattle.traffic.specs.Slot.{Send}
@@ -28,9 +28,6 @@ slotWord = 115 ∷ (108 ∷ (111 ∷ (116 ∷ [])))
 
 abbrev pub badWord : Text
 badWord = 98 ∷ (97 ∷ (100 ∷ []))
-
-abbrev pub lineFeed : ℕ
-lineFeed = 10
 
 abbrev pub slash : ℕ
 slash = 47

@@ -12,7 +12,7 @@ use Rattle.decimal.specs.Put.{putAt}
 use Rattle.room.specs.Layout.{Store, numberAt}
 use Rattle.setup.specs.declared.SetUp.{SetUp}
 use Rattle.setup.specs.SetUp.{setUpAnswer, setUpStore}
-use Rattle.play.specs.Play.{mostKept, counted, kept, startedOn, started}
+use Rattle.play.specs.Play.{linksLength, mostKept, counted, kept, startedOn, started}
 
 four : (ns : List ℕ) → 4 ≤ length ns
     → numberAt ns 0 ∷ (numberAt ns 1 ∷ (numberAt ns 2 ∷ (numberAt ns 3 ∷ []))) ≡ take 4 ns
@@ -27,7 +27,7 @@ module _ (links ns : List ℕ) (n : ℕ) where
   pub kept-full : mostKept ≤ n → (n ≡ counted n) × (links ≡ kept links n ns)
   kept-full h = (rw (le-ltb n mostKept h, counted), rw (le-ltb n mostKept h, kept))
 
-  pub kept-one : n < mostKept → length links ≡ 68 → 4 ≤ length ns
+  pub kept-one : n < mostKept → length links ≡ linksLength → 4 ≤ length ns
       → (n + 1 ≡ counted n)
       × (set
       (set (set (set links (4 * n) (numberAt ns 0)) (4 * n + 1) (numberAt ns 1)) (4 * n + 2) (numberAt ns 2))
@@ -43,7 +43,7 @@ module _ (links ns : List ℕ) (n : ℕ) where
   )
 
 -- set-up looks at 17 links and no more
-module _ (links : List ℕ) (n m : ℕ) (l : length links ≡ 68) (e : m ≡ min n mostKept) where
+module _ (links : List ℕ) (n m : ℕ) (l : length links ≡ linksLength) (e : m ≡ min n mostKept) where
   pub looked-length : 4 * m ≡ length (take (4 * m) links)
   looked-length = sym (length-take-le (4 * m) links (omega arith))
 

@@ -66,9 +66,12 @@ abbrev pub first : (before : Step) → Asked → (numbers : List ℕ) → (count
 first before asked numbers count = firstOn (before .phase) before (answered (before .store) asked numbers count)
 
 -- A `link` line before set-up, after n good ones. One that does not read is bad and counts as no link. More than 16 links are
--- refused whichever they are, so that the first 17 are kept, and no more counted.
+-- refused whichever they are, so that the first 17 are kept, four numbers each, and no more counted.
 abbrev pub mostKept : ℕ
 mostKept = 17
+
+abbrev pub linksLength : ℕ
+linksLength = 68
 
 abbrev pub counted : (n : ℕ) → ℕ
 counted n = elim (ltb n mostKept) [ true ↦ suc n | false ↦ n ]

@@ -8,7 +8,7 @@ ghost use lib.ListN.{length};
 ghost use Rattle.decimal.specs.Put.{putAt};
 ghost use Rattle.listing.specs.Buffer.{lastForLine, lastForSlot};
 ghost use Rattle.answer.specs.Answer.{asksOf};
-ghost use Rattle.play.specs.Play.{nextOf, answered, started, mostKept, kept, counted};
+ghost use Rattle.play.specs.Play.{nextOf, answered, started, mostKept, linksLength, kept, counted};
 ghost use Rattle.play.specs.Play.{linkHeard, linksHeard, played, playedLinks, ended};
 ghost use Rattle.play.specs.At.{playedAt};
 
@@ -82,7 +82,7 @@ fn looked_at(n: usize) -> usize
 
 // Sets up the network of the `link` lines so far.
 fn set_up(store: &mut [u64; 65536], links: &[u64], n: usize, out: &mut [u8], at: usize) -> Played
-    requires { ⌜ length (now links) ≡ 68 ⌝ }
+    requires { ⌜ length (now links) ≡ linksLength ⌝ }
     requires { ⌜ at + 50 ≤ length (now out) ⌝ }
     ensures { λ r. ⌜ r ≡ playedAt at (started (now (store .entry)) (now (links .entry)) n) ⌝ }
     ensures { λ _. ⌜ now (store .exit) ≡ started (now (store .entry)) (now (links .entry)) n .store ⌝ }
@@ -113,7 +113,7 @@ fn set_up(store: &mut [u64; 65536], links: &[u64], n: usize, out: &mut [u8], at:
 
 // Keeps a good `link` line's numbers: how many links there are now.
 fn keep(links: &mut [u64], n: usize, numbers: &[u64]) -> usize
-    requires { ⌜ length (now links) ≡ 68 ⌝ }
+    requires { ⌜ length (now links) ≡ linksLength ⌝ }
     requires { ⌜ 4 ≤ length (now numbers) ⌝ }
     ensures { λ r. ⌜ r ≡ counted n ⌝ }
     ensures { λ _. ⌜ now (links .exit) ≡ kept (now (links .entry)) n (now (numbers .entry)) ⌝ }

@@ -5,14 +5,14 @@ use mathlib.Core.Path.{_≡_, refl}
 use mathlib.Core.List.{List, [], _∷_}
 use lib.ListN.{replicate}
 use Rattle.decimal.specs.Decimal.{Text}
+use Rattle.decimal.specs.Word.{lineFeed}
 use Rattle.room.specs.Layout.{Store, storeLength}
-use Rattle.lines.specs.Lines.{lineFeed}
 use Rattle.lines.proofs.Laws.{last-line, no-line}
 use Rattle.play.specs.declared.Phase.{Phase}
 use Rattle.play.specs.declared.Phase.the-variants.{Before}
 use Rattle.play.specs.declared.Next.the-variants.{Line}
-use Rattle.play.specs.Play.{ended}
-use Rattle.run.specs.Listing.{linksLength, linesOut, listing, restOut}
+use Rattle.play.specs.Play.{linksLength, ended}
+use Rattle.run.specs.Listing.{linesOut, listing, restOut}
 
 pub rest-start : (script : Text)
     → restOut (Before 0) Line (replicate storeLength 0) (replicate linksLength 0) 0 [] script ≡ listing script

@@ -11,7 +11,7 @@ use Rattle.play.specs.declared.Phase.{Phase}
 use Rattle.play.specs.declared.Phase.the-variants.{Before}
 use Rattle.play.specs.declared.Next.{Next}
 use Rattle.play.specs.declared.Next.the-variants.{Line, Slots}
-use Rattle.play.specs.Play.{played, playedLinks, ended}
+use Rattle.play.specs.Play.{linksLength, played, playedLinks, ended}
 
 -- what comes before the next line: the slots of a `tick`, or nothing
 abbrev pub nextOut : Next → Store → Text
@@ -38,10 +38,6 @@ linesOut phase w links lines (text ∷ rest) =
     let s = played phase w links text (counted lines) in
     s .out ++ (nextOut (s .next) (s .store)
     ++ linesOut (s .phase) (nextStore (s .next) (s .store)) (playedLinks phase links text) (counted lines) rest)
-
--- room for 17 links of four numbers
-abbrev pub linksLength : ℕ
-linksLength = 68
 
 -- the listing of a script
 abbrev pub listing : (script : Text) → Text
