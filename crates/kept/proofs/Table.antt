@@ -7,7 +7,7 @@ use native.Mathlib.Omega.{arith}
 use lib.ListN.{drop, take-append-drop, drop-of-length-le}
 use lib.Seq.{append-snoc, drop-append-le}
 use Rattle.response.specs.declared.Row.{Row}
-use Rattle.schedule.specs.Feasible.{Every}
+use Rattle.schedule.specs.Lists.{Every}
 use Rattle.room.specs.Layout.{Store}
 use Rattle.opening.specs.Search.{rowAt, rowsTo}
 use Rattle.opening.proofs.Laws.Search.{rows-length, rows-take}

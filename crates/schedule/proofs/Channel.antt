@@ -1,16 +1,15 @@
--- A channel's course: what "on time" says of it, and how sends, offers and forgetting change it. Assumes nothing.
+-- A channel's course: what "on time" says of it, and how sends and offers change it. Assumes nothing.
 use Prim.Native.Nat.{ℕ, zero, suc, _+_, _≤_, _<_}
-use mathlib.Core.Path.{_≡_, sym}
 use mathlib.Core.Logic.{inl, inr}
-use mathlib.Core.List.{List, [], _∷_, _++_}
 use native.Mathlib.Nat.{le-trans}
 use native.Mathlib.Omega.{arith}
-use Rattle.schedule.specs.Link.{Current, OnTime, Sent, Turn, Offered, _∈_}
-use Rattle.schedule.specs.Messages.{Message, Orderly, ended}
+use Rattle.schedule.specs.Lists.{_∈_}
+use Rattle.schedule.specs.Link.{Current, OnTime, Sent, Turn, Offered}
+use Rattle.schedule.specs.Messages.{Message, ended}
 use Rattle.schedule.specs.Channel.{Channel, Course, rowAt, offset, headOf, entered, Held, Counted, Accepts, Sends, Steps}
-use Rattle.schedule.specs.Channel.{sending, accepting, forgetting}
-use Rattle.schedule.proofs.Messages.{head-send, head-offer, head-forget, all-sent, Unsent, head-message}
-use Rattle.schedule.proofs.Messages.{ended-in, ended-more, orderly-more}
+use Rattle.schedule.specs.Channel.{sending, accepting}
+use Rattle.schedule.proofs.Messages.{head-send, head-offer, all-sent, Unsent, head-message}
+use Rattle.schedule.proofs.Messages.{ended-in}
 
 module _ (ch : Channel) (now : Course) (ok : Counted ch now) where
   -- where the head is on time, a message whose deadline there is past is wholly sent there
@@ -79,14 +78,6 @@ module _ (ch : Channel) (now : Course) (ok : Counted ch now) where
         flows zero h = within 0 h (steps 0 h)
         flows (suc j) h = le-trans (within (suc j) h (steps (suc j) h)) (rises j (steps j (omega arith)))
 
-  -- The counts are in order after a change of the messages that reaches as far.
-  flows-on : (first base : ℕ) (ms : List Message) → ended (now .base) (now .messages) ≤ ended base ms
-      → (j : ℕ) → j < ch .hops
-      → now .sent j ≤ entered (record { first = first; base = base; messages = ms; sent = now .sent }) j
-  unfolding entered
-  flows-on first base ms more zero h = le-trans (ok .flows 0 h) more
-  flows-on first base ms more (suc j) h = ok .flows (suc j) h
-
   -- A message is accepted.
   module _ (t : ℕ) (m : Message) (a : Accepts ch now t m) where
     pub course-offered : (j : ℕ) → j < ch .hops → Offered (rowAt ch j) t (headOf ch now j) (headOf ch (accepting now m) j)
@@ -94,26 +85,3 @@ module _ (ch : Channel) (now : Course) (ok : Counted ch now) where
         let most : now .sent j ≤ ended (now .base) (now .messages) = le-trans (ok .flows j h) (entered-most j h) in
         head-offer (rowAt ch j) (offset ch j) t (now .first) (now .base) (now .sent j) (now .messages) m
         (ok .forgot j h) most (a .present) (a .next)
-
-    pub accepting-counted : Counted ch (accepting now m)
-    accepting-counted = record {
-      orderly = orderly-more (ch .c) (ch .p) (now .first) (now .base) (now .messages) m (ok .orderly) (a .next);
-      forgot = ok .forgot;
-      flows = flows-on (now .first) (now .base) (now .messages ++ (m ∷ [])) (rw ended-more (omega (arith, a .next .some)));
-    }
-
-  -- The first message is forgotten, being sent at every place.
-  module _ (m : Message) (others : List Message) (e : now .messages ≡ m ∷ others)
-      (past : (j : ℕ) → j < ch .hops → m .end ≤ now .sent j) where
-    pub course-forgot : (j : ℕ) → j < ch .hops → headOf ch (forgetting ch now m others) j ≡ headOf ch now j
-    course-forgot j h = rw e (sym (head-forget (ch .p) (offset ch j) (now .first) (now .sent j) m others (past j h)))
-
-    pub forgetting-counted : Counted ch (forgetting ch now m others)
-    unfolding ended
-    forgetting-counted =
-        let whole : Orderly (ch .c) (ch .p) (now .first) (now .base) (m ∷ others) = rw e at (ok .orderly) in
-        record {
-          orderly = whole .1;
-          forgot = past;
-          flows = flows-on (m .time + ch .p) (m .end) others (rw e (omega arith));
-        }

@@ -9,7 +9,8 @@ use native.Mathlib.Omega.{arith}
 use Rattle.response.specs.declared.Row.{Row}
 use Rattle.response.specs.Need.{ceil, work, need, Spaced}
 use Rattle.response.proofs.Laws.Need.{ceil-covers}
-use Rattle.schedule.specs.Feasible.{Every, Constrained, Fits, FeasibleUnder, Feasible}
+use Rattle.schedule.specs.Lists.{Every}
+use Rattle.schedule.specs.Feasible.{Constrained, Fits, FeasibleUnder, Feasible}
 use Rattle.schedule.specs.Due.{jobs, demand, total, due}
 use Rattle.schedule.proofs.Work.{work-zero, work-repeat}
 use Rattle.schedule.proofs.Due.{jobs-counted}

@@ -9,8 +9,8 @@ use Rattle.response.specs.Need.{ceil, work, need, Spaced}
 use Rattle.response.specs.Right.{HasResponse}
 use Rattle.response.proofs.Laws.Need.{ceil-least, ceil-pos}
 use Rattle.response.proofs.Laws.Trials.{found-least, enough-found}
-use Rattle.schedule.specs.Feasible.{Every, Apart, Constrained, Fits, FeasibleUnder, Table, Sorted}
-use Rattle.schedule.specs.Link.{_∈_}
+use Rattle.schedule.specs.Lists.{Every, _∈_}
+use Rattle.schedule.specs.Feasible.{Apart, Constrained, Fits, FeasibleUnder, Table, Sorted}
 use Rattle.schedule.proofs.Lists.{every-insert, every-map}
 use Rattle.schedule.proofs.Work.{work-append}
 

@@ -10,7 +10,8 @@ use Rattle.response.specs.declared.Row.{Row}
 use Rattle.schedule.specs.Feasible.{Apart, Constrained, Table}
 use Rattle.schedule.specs.Due.{demand, total}
 use Rattle.schedule.specs.Link.{Head, Partly, Before, Current, deadline, OnTime, Behind, owed, Sent, Offered}
-use Rattle.schedule.specs.Link.{_∈_, By, J, Pick, Slot}
+use Rattle.schedule.specs.Lists.{_∈_}
+use Rattle.schedule.specs.Link.{By, J, Pick, Slot}
 use Rattle.schedule.specs.Link.Pick.{sends, rests}
 use Rattle.schedule.proofs.Lists.{every-map, in-insert}
 use Rattle.schedule.proofs.Total.{total-le, total-lt, total-in, total-insert, total-map}

@@ -6,8 +6,7 @@ use mathlib.Core.List.{List, [], _∷_, _++_, map, List·Memᴰ·head, List·Mem
 use native.Mathlib.Omega.{arith}
 use lib.ListN.{length, take, drop, getD}
 use lib.Seq.{take-at, drop-at, getD-at, drop-append-le, split-at, length-take-le}
-use Rattle.schedule.specs.Feasible.{Every}
-use Rattle.schedule.specs.Link.{_∈_}
+use Rattle.schedule.specs.Lists.{Every, _∈_}
 
 module _ {A : Type 0} where
   -- a list has one front part of a length, and one element after it
@@ -48,6 +47,10 @@ module _ {A : Type 0} where
       go (inr n) = inr (List·Memᴰ·tail n)
 
   module _ (P : A → Type 0) where
+    pub every-append : (xs ys : List A) → Every P xs → Every P ys → Every P (xs ++ ys)
+    every-append [] ys a b = b
+    every-append (x ∷ xs) ys a b = (a .0, every-append xs ys (a .1) b)
+
     pub every-split : (xs ys : List A) → Every P (xs ++ ys) → Every P xs × Every P ys
     every-split [] ys e = (tt, e)
     every-split (x ∷ xs) ys e = let rest : _ = every-split xs ys (e .1) in ((e .0, rest .0), rest .1)

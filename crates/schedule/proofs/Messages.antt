@@ -9,7 +9,8 @@ use native.Mathlib.Omega.{arith}
 use lib.ListN.{length}
 use borrow.Author.Tests.{lt-ltb, le-ltb}
 use Rattle.response.specs.declared.Row.{Row}
-use Rattle.schedule.specs.Link.{Head, Partly, Before, From, OnTime, Sent, Offered, _∈_}
+use Rattle.schedule.specs.Lists.{_∈_}
+use Rattle.schedule.specs.Link.{Head, Partly, Before, From, OnTime, Sent, Offered}
 use Rattle.schedule.specs.Link.Head.{busy, free}
 use Rattle.schedule.specs.Link.Sent.{more, done}
 use Rattle.schedule.specs.Link.Offered.{behind, ahead}

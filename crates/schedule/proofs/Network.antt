@@ -1,24 +1,24 @@
 -- All links together. J on every link at t gives J on every link one slot later: a current head's packets are here, since
--- nothing is late on the link before. And J on every link stays through offers, forgetting and opens. Assumes nothing.
+-- nothing is late on the link before. And J on every link stays through offers. Assumes nothing.
 use Prim.Native.Nat.{ℕ, zero, suc, _+_, _≤_, _<_}
-use mathlib.Core.Path.{_≡_, refl}
+use mathlib.Core.Path.{_≡_}
 use mathlib.Core.Logic.{_⊎_, inl, inr}
-use mathlib.Core.List.{[], Memᴰ·append-right, List·Memᴰ·head, List·Memᴰ·not-nil}
+use mathlib.Core.List.{[], List·Memᴰ·not-nil}
 use native.Mathlib.Omega.{arith}
 use Rattle.schedule.specs.Feasible.{Apart}
-use Rattle.schedule.specs.Link.{Current, OnTime, Turn, Offered, _∈_, J, Pick}
+use Rattle.schedule.specs.Lists.{_∈_}
+use Rattle.schedule.specs.Link.{Current, OnTime, Turn, Offered, Pick}
 use Rattle.schedule.specs.Link.Pick.{sends as link-sends, rests as link-rests}
 use Rattle.schedule.specs.Link.Offered.{behind}
-use Rattle.schedule.specs.Messages.{Message, headAt}
-use Rattle.schedule.specs.Channel.{offset, headOf, Held, Counted}
+use Rattle.schedule.specs.Messages.{Message}
+use Rattle.schedule.specs.Channel.{offset, headOf, Held}
 use Rattle.schedule.specs.Network.{Key, Plan, Traffic, HeldAt, row, head, Inside, Planned, AllCounted, OnLinks}
-use Rattle.schedule.specs.Network.{Picks, Step, stepped, Offers, Forgets, Joins, Opens}
+use Rattle.schedule.specs.Network.{Picks, Step, stepped, Offers}
 use Rattle.schedule.specs.Network.Picks.{sends, rests}
-use Rattle.schedule.specs.Network.Joins.{none, one}
 use Rattle.schedule.proofs.Feasible.{table-apart}
-use Rattle.schedule.proofs.Link.{nothing-late, fresh, slot-kept, offer-kept, join-kept, same-kept}
+use Rattle.schedule.proofs.Link.{nothing-late, fresh, slot-kept, offer-kept}
 use Rattle.schedule.proofs.Channel.{sent-in-time, here-first, here-later, course-sent, course-turn, sending-counted}
-use Rattle.schedule.proofs.Channel.{course-offered, accepting-counted, course-forgot, forgetting-counted}
+use Rattle.schedule.proofs.Channel.{course-offered}
 
 -- J holds where there are no rows yet
 pub set-up : (plan : Plan) (s : Traffic) (t : ℕ) → ((l : ℕ) → plan .rows l ≡ []) → OnLinks plan s t
@@ -87,50 +87,3 @@ module _ (plan : Plan) (ok : Planned plan) (s : Traffic) (counted : AllCounted p
     pub offers-kept : OnLinks plan s′ t
     offers-kept l = offer-kept (row plan) (plan .rows l) (apart l) (head plan s) (head plan s′) t
         (λ k m. offered k (ok .placed l k m) (each (k .channel))) (on l)
-
-    pub offers-counted : AllCounted plan s′
-    offers-counted ch = go (each ch)
-      where
-        go : (s′ ch ≡ s ch) ⊎ Offers plan s s′ t ch → Counted (plan .channel ch) (s′ ch)
-        go (inl e) = rw e (counted ch)
-        go (inr o) = rw (o .now) (accepting-counted (plan .channel ch) (s ch) (counted ch) t (o .message) (o .accepts))
-
-  -- First messages are forgotten.
-  module _ (s′ : Traffic) (each : (ch : ℕ) → (s′ ch ≡ s ch) ⊎ Forgets plan s s′ ch) where
-    forgot : (k : Key) → Inside plan k → (s′ (k .channel) ≡ s (k .channel)) ⊎ Forgets plan s s′ (k .channel)
-        → head plan s′ k ≡ head plan s k
-    forgot k h (inl e) = rw e
-    forgot k h (inr f) =
-        let ch : ℕ = k .channel in
-        rw (f .now) (course-forgot (plan .channel ch) (s ch) (counted ch) (f .message) (f .others) (f .first) (f .past)
-        (k .place) h)
-
-    pub forgets-kept : OnLinks plan s′ t
-    forgets-kept l = same-kept (row plan) (row plan) (head plan s) (head plan s′) (plan .rows l) t
-        (λ k m. (refl, forgot k (ok .placed l k m) (each (k .channel)))) (on l)
-
-    pub forgets-counted : AllCounted plan s′
-    forgets-counted ch = go (each ch)
-      where
-        go : (s′ ch ≡ s ch) ⊎ Forgets plan s s′ ch → Counted (plan .channel ch) (s′ ch)
-        go (inl e) = rw e (counted ch)
-        go (inr f) =
-            rw (f .now) (forgetting-counted (plan .channel ch) (s ch) (counted ch) (f .message) (f .others) (f .first) (f .past))
-
-  -- An open.
-  module _ (plan′ : Plan) (ok′ : Planned plan′) (s′ : Traffic) (o : Opens plan plan′ s s′) where
-    kept : (l : ℕ) → J (row plan′) (head plan′ s′) (plan .rows l) t
-    kept l = same-kept (row plan) (row plan′) (head plan s) (head plan′ s′) (plan .rows l) t
-        (λ k m. (rw (o .channel l k m), rw (o .channel l k m, o .course l k m))) (on l)
-
-    joined : (l : ℕ) → Joins plan plan′ s′ l → J (row plan′) (head plan′ s′) (plan′ .rows l) t
-    unfolding headAt
-    joined l (none e) = rw e (kept l)
-    joined l (one above below k e e′ empty) =
-        let there : k ∈ plan′ .rows l = rw e′ (Memᴰ·append-right above (List·Memᴰ·head refl)) in
-        let apart′ : Apart (row plan′ k) = table-apart (row plan′) (plan′ .rows l) (ok′ .tables l) k there in
-        rw e′ (join-kept (row plan′) (head plan′ s′) above below t k apart′ (rw empty tt) (rw empty (λ b. b))
-        (rw (← e) (kept l)))
-
-    pub opens-kept : OnLinks plan′ s′ t
-    opens-kept l = joined l (o .rows l)

@@ -10,7 +10,8 @@ use Rattle.response.specs.declared.Row.{Row}
 use Rattle.response.specs.Need.{work, need, Spaced}
 use Rattle.response.specs.Right.{Least, HasResponse}
 use Rattle.response.proofs.Laws.Trials.{found-least}
-use Rattle.schedule.specs.Feasible.{Every, Apart, Constrained, Fits, FeasibleUnder, Table, Sorted}
+use Rattle.schedule.specs.Lists.{Every}
+use Rattle.schedule.specs.Feasible.{Apart, Constrained, Fits, FeasibleUnder, Table, Sorted}
 use Rattle.schedule.specs.Opening.{AllAfter, Smallest, Opening, given, opened}
 use Rattle.schedule.proofs.Lists.{same-before, same-at, Split, split, every-split, every-later, every-insert}
 use Rattle.schedule.proofs.Work.{work-append, work-reverse}

@@ -5,7 +5,7 @@ use mathlib.Core.List.{List, [], _∷_}
 use native.Mathlib.Nat.{lt-div-mul-add}
 use native.Mathlib.Omega.{arith}
 use lib.ListN.{length}
-use Rattle.schedule.specs.Feasible.{Every}
+use Rattle.schedule.specs.Lists.{Every}
 use Rattle.schedule.specs.Times.{Spread}
 use Rattle.schedule.proofs.Lists.{every-imp}
 

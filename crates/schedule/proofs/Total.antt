@@ -4,7 +4,7 @@ use mathlib.Core.Path.{_≡_, refl, ap}
 use mathlib.Core.List.{List, [], _∷_, _++_, map, List·Memᴰ·head, List·Memᴰ·tail}
 use native.Mathlib.Omega.{arith}
 use Rattle.schedule.specs.Due.{total}
-use Rattle.schedule.specs.Link.{_∈_}
+use Rattle.schedule.specs.Lists.{_∈_}
 
 module _ {A : Type 0} where
   pub total-le : (f g : A → ℕ) (xs : List A) → ((x : A) → x ∈ xs → f x ≤ g x) → total f xs ≤ total g xs

@@ -43,22 +43,18 @@ entered now (suc j) = now .sent j
 abbrev pub Held : Course → ℕ → Type 0
 Held now j = now .sent j < entered now j
 
--- messages are in order, a forgotten one is sent at every place, and no place has sent more than has come to it
+-- messages are in order, those before them are sent at every place, and no place has sent more than has come to it
 pub record Counted (ch : Channel) (now : Course) : Type 0 where
   pub orderly : Orderly (ch .c) (ch .p) (now .first) (now .base) (now .messages)
   pub forgot : (j : ℕ) → j < ch .hops → now .base ≤ now .sent j
   pub flows : (j : ℕ) → j < ch .hops → now .sent j ≤ entered now j
 
--- What happens to a course: packets are sent; a message is accepted; the first message, m with others behind it, is
--- forgotten.
+-- What happens to a course: packets are sent; a message is accepted.
 abbrev pub sending : Course → (ℕ → ℕ) → Course
 sending now sent = record { first = now .first; base = now .base; messages = now .messages; sent = sent }
 
 abbrev pub accepting : Course → Message → Course
 accepting now m = record { first = now .first; base = now .base; messages = now .messages ++ (m ∷ []); sent = now .sent }
-
-abbrev pub forgetting : Channel → Course → Message → List Message → Course
-forgetting ch now m others = record { first = m .time + ch .p; base = m .end; messages = others; sent = now .sent }
 
 -- a packet that place j holds is sent: the new count is one more
 pub record Sends (now : Course) (sent : ℕ → ℕ) (j : ℕ) : Type 0 where

@@ -1,14 +1,9 @@
 -- Tables that pass the response-time test. A table is a list of rows (C, p, delay), highest priority first.
 use Prim.Native.Nat.{ℕ, _≤_}
 use mathlib.Core.List.{List, [], _∷_}
+use Rattle.schedule.specs.Lists.{Every}
 use Rattle.response.specs.declared.Row.{Row}
 use Rattle.response.specs.Need.{need}
-
--- P holds of each element
-module _ {A : Type 0} (P : A → Type 0) where
-  abbrev pub Every : List A → Type 0
-  Every [] = Unit {0}
-  Every (x ∷ xs) = P x × Every xs
 
 -- no two messages of the row have one logical time
 abbrev pub Apart : Row → Type 0

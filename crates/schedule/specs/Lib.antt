@@ -1,3 +1,4 @@
+pub mod Lists
 pub mod Feasible
 pub mod Due
 pub mod Opening

@@ -5,8 +5,9 @@ use Prim.Native.Nat.{ℕ, suc, _+_, _-_, _≤_, _<_, max}
 use mathlib.Core.Path.{_≡_}
 use mathlib.Core.Logic.{_⊎_}
 use mathlib.Core.Bool.{true, false}
-use mathlib.Core.List.{List, List·Memᴰ}
+use mathlib.Core.List.{List}
 use lib.Dec.{leb}
+use Rattle.schedule.specs.Lists.{_∈_}
 use Rattle.response.specs.declared.Row.{Row}
 use Rattle.schedule.specs.Due.{demand, total}
 
@@ -68,11 +69,6 @@ Turn x h h′ = (h′ ≡ h) ⊎ Sent x h h′
 pub data Offered (x : Row) (t : ℕ) : Head → Head → Type 0 where
   behind : {h : Head} → Offered x t h h
   ahead : {e ℓ left : ℕ} → t ≤ ℓ → e ≤ ℓ → Partly x (busy ℓ left) → Offered x t (free e) (busy ℓ left)
-
-infix 20 _∈_
--- k is one of the keys
-abbrev pub _∈_ : {K : Type 0} → K → List K → Type 0
-k ∈ ks = List·Memᴰ k ks
 
 -- For one δ: since some time, at most t, the link has sent nothing but packets due by δ, so that what it owes by δ and the
 -- slots gone since are together at most the demand from then on.

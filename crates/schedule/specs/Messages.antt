@@ -18,7 +18,7 @@ pub record Next (c e base : ℕ) (m : Message) : Type 0 where
   pub some : base < m .end
   pub most : m .end ≤ base + c
 
--- messages in order, at least p apart. (Those before them are forgotten: they are wholly sent at every place.)
+-- messages in order, at least p apart. (Those before them, if any, are wholly sent at every place.)
 abbrev pub Orderly : (c p e base : ℕ) → List Message → Type 0
 Orderly c p e base [] = Unit {0}
 Orderly c p e base (m ∷ ms) = Next c e base m × Orderly c p (m .time + p) (m .end) ms

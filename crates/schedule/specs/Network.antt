@@ -1,13 +1,14 @@
 -- All links together: a plan, which is what opens have settled, and the course of each channel.
-use Prim.Native.Nat.{ℕ, _≤_, _<_}
+use Prim.Native.Nat.{ℕ, _<_}
 use mathlib.Core.Path.{_≡_}
-use mathlib.Core.List.{List, [], _∷_, _++_, map}
+use mathlib.Core.List.{List, map}
 use Rattle.response.specs.declared.Row.{Row}
 use Rattle.schedule.specs.Feasible.{Table}
-use Rattle.schedule.specs.Link.{Head, _∈_, J, Earliest, Idle}
+use Rattle.schedule.specs.Lists.{_∈_}
+use Rattle.schedule.specs.Link.{Head, J, Earliest, Idle}
 use Rattle.schedule.specs.Messages.{Message}
 use Rattle.schedule.specs.Channel.{Channel, Course, rowAt, headOf, Held, Counted, Accepts, Sends, Steps}
-use Rattle.schedule.specs.Channel.{sending, accepting, forgetting}
+use Rattle.schedule.specs.Channel.{sending, accepting}
 
 -- a channel at one place of its route
 pub record Key : Type 0 where
@@ -68,27 +69,8 @@ module _ (plan : Plan) (s : Traffic) (t : ℕ) (sent : ℕ → ℕ → ℕ) wher
 abbrev pub stepped : Traffic → (ℕ → ℕ → ℕ) → Traffic
 stepped s sent ch = sending (s ch) (sent ch)
 
--- Between slots, from s to s′: a message is accepted at t; or a first message that is sent at every place is forgotten.
+-- between slots, from s to s′: a message is accepted at t
 pub record Offers (plan : Plan) (s s′ : Traffic) (t ch : ℕ) : Type 0 where
   pub message : Message
   pub accepts : Accepts (plan .channel ch) (s ch) t message
   pub now : s′ ch ≡ accepting (s ch) message
-
-pub record Forgets (plan : Plan) (s s′ : Traffic) (ch : ℕ) : Type 0 where
-  pub message : Message
-  pub others : List Message
-  pub first : s ch .messages ≡ message ∷ others
-  pub past : (j : ℕ) → j < plan .channel ch .hops → message .end ≤ s ch .sent j
-  pub now : s′ ch ≡ forgetting (plan .channel ch) (s ch) message others
-
--- An open, as link l sees it: no row joins, or one does, of a channel that has no message yet.
-pub data Joins (plan plan′ : Plan) (s′ : Traffic) (l : ℕ) : Type 0 where
-  none : plan′ .rows l ≡ plan .rows l → Joins plan plan′ s′ l
-  one : (above below : List Key) (k : Key) → plan .rows l ≡ above ++ below → plan′ .rows l ≡ above ++ (k ∷ below)
-      → s′ (k .channel) .messages ≡ [] → Joins plan plan′ s′ l
-
--- and the channels of the rows that there were are as before
-pub record Opens (plan plan′ : Plan) (s s′ : Traffic) : Type 0 where
-  pub channel : (l : ℕ) (k : Key) → k ∈ plan .rows l → plan′ .channel (k .channel) ≡ plan .channel (k .channel)
-  pub course : (l : ℕ) (k : Key) → k ∈ plan .rows l → s′ (k .channel) ≡ s (k .channel)
-  pub rows : (l : ℕ) → Joins plan plan′ s′ l

@@ -7,7 +7,7 @@ use Rattle.response.specs.declared.Row.{Row}
 use Rattle.response.specs.declared.Answer.the-variants.{Found}
 use Rattle.response.specs.Trials.{response}
 use Rattle.response.specs.Right.{HasResponse}
-use Rattle.schedule.specs.Feasible.{Every}
+use Rattle.schedule.specs.Lists.{Every}
 
 -- "every row after position q (positions from 1) has a response", limit its delay, below the new row, which stands above
 -- all, and the rows before it
