@@ -1,2 +1,4 @@
+pub mod Few
 pub mod Same
 pub mod Settled
+pub mod Numbers

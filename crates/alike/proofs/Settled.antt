@@ -16,6 +16,7 @@ use Rattle.room.specs.Amounts.{reservedOf, acceptedOf, enteredOf, heldOf}
 use Rattle.room.specs.Sound.{inOrder, rowDelayOf, rowReservedOf}
 use Rattle.room.proofs.Laws.Folds.{sum-mono}
 use Rattle.room.proofs.Laws.Sound.{LinkIs, ChannelIs, RowIs, Before, RowsAre, RowFor, Sound}
+use Rattle.alike.proofs.Few.{few-channels, few-links, few-places, few-rows}
 use Rattle.alike.proofs.Same.{SameNetwork, good-same}
 
 -- one frame for every number that offers and slots leave alone
@@ -92,24 +93,16 @@ module _ {w w′ : Store} (s : Settled w w′) where
 
   -- of a sound store
   module _ (sound : Sound w) where
-    few-channels : (c : ℕ) → c < channelsOf w → c < mostChannels
-    few-channels c h = omega (arith, sound .counts .channels-most)
-
-    few-links : (l : ℕ) → l < linksOf w → l < mostLinks
-    few-links l h = omega (arith, sound .counts .links-most)
-
     module _ (c : ℕ) (h : c < channelsOf w) where
-      few-places : (j : ℕ) → j < hopsOf w c → j < mostHops
-      few-places j i = omega (arith, sound .channel c h .hops-most)
-
       pub reserved-kept : (j : ℕ) → j < hopsOf w c → reservedOf w′ c j ≡ reservedOf w c j
       unfolding reservedOf
-      reserved-kept zero i = rw (c-kept c (few-channels c h), b-kept c (few-channels c h))
+      reserved-kept zero i = rw (c-kept c (few-channels sound c h), b-kept c (few-channels sound c h))
       reserved-kept (suc j) i =
-          let a : c < mostChannels = few-channels c h in
-          let l : suc j < mostHops = few-places (suc j) i in
-          let n : j < mostHops = few-places j (omega arith) in
-          let m : routeOf w c j < mostLinks = few-links (routeOf w c j) (sound .channel c h .route .known j (omega arith)) in
+          let a : c < mostChannels = few-channels sound c h in
+          let l : suc j < mostHops = few-places sound c (suc j) h i in
+          let n : j < mostHops = few-places sound c j h (omega arith) in
+          let m : routeOf w c j < mostLinks =
+          few-links sound (routeOf w c j) (sound .channel c h .route .known j (omega arith)) in
           rw (c-kept c a, p-kept c a, route-kept c a j n, network-same .horizon (routeOf w c j) m, delay-kept c a j n)
           (rw (delay-kept c a (suc j) l))
 
@@ -120,9 +113,11 @@ module _ {w w′ : Store} (s : Settled w w′) where
         hops-most = rw (hops-kept c a) (old .hops-most);
         route = rw (hops-kept c a)
             (good-same network-same (sound .counts .links-most) (routeOf w c) (routeOf w′ c) (hopsOf w c)
-            (λ j i. route-kept c a j (few-places j i)) (old .route));
-        delay-least = λ j i. let n = inside j i in rw (delay-kept c a j (few-places j n)) (old .delay-least j n);
-        delay-most = λ j i. let n = inside j i in rw (delay-kept c a j (few-places j n), p-kept c a) (old .delay-most j n);
+            (λ j i. route-kept c a j (few-places sound c j h i)) (old .route));
+        delay-least = λ j i. let n = inside j i in rw (delay-kept c a j (few-places sound c j h n)) (old .delay-least j n);
+        delay-most = λ j i.
+            let n = inside j i in
+            rw (delay-kept c a j (few-places sound c j h n), p-kept c a) (old .delay-most j n);
         flows = k .flows;
         messages-most = k .messages-most;
         time-most = k .time-most;
@@ -131,7 +126,7 @@ module _ {w w′ : Store} (s : Settled w w′) where
       }
         where
           a : c < mostChannels
-          a = few-channels c h
+          a = few-channels sound c h
 
           old : ChannelIs w c
           old = sound .channel c h
@@ -141,24 +136,21 @@ module _ {w w′ : Store} (s : Settled w w′) where
 
     -- a row of link l, as before
     module _ (l : ℕ) (h : l < linksOf w) where
-      inside : (k : ℕ) → k < rowsOf w l → k < mostRows
-      inside k i = omega (arith, sound .link l h .rows-most)
+      pub same-channel : (k : ℕ) → k < rowsOf w l → rowChannelOf w′ l k ≡ rowChannelOf w l k
+      same-channel k i = row-channel-same l (few-links sound l h) k (few-rows sound l k h i)
 
-      same-channel : (k : ℕ) → k < rowsOf w l → rowChannelOf w′ l k ≡ rowChannelOf w l k
-      same-channel k i = row-channel-same l (few-links l h) k (inside k i)
-
-      same-place : (k : ℕ) → k < rowsOf w l → rowPlaceOf w′ l k ≡ rowPlaceOf w l k
-      same-place k i = row-place-same l (few-links l h) k (inside k i)
+      pub same-place : (k : ℕ) → k < rowsOf w l → rowPlaceOf w′ l k ≡ rowPlaceOf w l k
+      same-place k i = row-place-same l (few-links sound l h) k (few-rows sound l k h i)
 
       module _ (k : ℕ) (i : k < rowsOf w l) where
         old : RowIs w l k
         old = sound .rows l h .rows k i
 
         few : rowChannelOf w l k < mostChannels
-        few = few-channels (rowChannelOf w l k) (old .channel)
+        few = few-channels sound (rowChannelOf w l k) (old .channel)
 
         near : rowPlaceOf w l k < mostHops
-        near = few-places (rowChannelOf w l k) (old .channel) (rowPlaceOf w l k) (old .place)
+        near = few-places sound (rowChannelOf w l k) (rowPlaceOf w l k) (old .channel) (old .place)
 
         pub row-kept : RowIs w′ l k
         row-kept = record {
@@ -172,7 +164,8 @@ module _ {w w′ : Store} (s : Settled w w′) where
 
         pub row-reserved-kept : rowReservedOf w′ l k ≡ rowReservedOf w l k
         row-reserved-kept =
-            rw (same-channel k i, same-place k i) (reserved-kept (rowChannelOf w l k) (old .channel) (rowPlaceOf w l k) (old .place))
+            rw (same-channel k i, same-place k i)
+            (reserved-kept (rowChannelOf w l k) (old .channel) (rowPlaceOf w l k) (old .place))
 
     -- the store is sound where each channel's course is and no place holds more than is reserved there
     module _ (clock : clockOf w′ ≤ endSlot) (course : (c : ℕ) → c < channelsOf w → CourseIs w′ c)
@@ -182,12 +175,12 @@ module _ {w w′ : Store} (s : Settled w w′) where
         rows = λ k i. row-kept l h k (inside-old k i);
         sorted = λ k i. order k (inside-old (suc k) i) (omega (arith, inside-old (suc k) i));
         holds = λ k i. holds k (inside-old k i);
-        fits = rw (rows-same l (few-links l h), network-same .buffer l (few-links l h))
+        fits = rw (rows-same l (few-links sound l h), network-same .buffer l (few-links sound l h))
             (omega (arith, sound .rows l h .fits, no-more));
       }
         where
           inside-old : (k : ℕ) → k < rowsOf w′ l → k < rowsOf w l
-          inside-old k i = rw (rows-same l (few-links l h)) at i
+          inside-old k i = rw (rows-same l (few-links sound l h)) at i
 
           no-more : sumTo (rowReservedOf w′ l) (rowsOf w l) ≤ sumTo (rowReservedOf w l) (rowsOf w l)
           no-more =
@@ -221,7 +214,7 @@ module _ {w w′ : Store} (s : Settled w w′) where
         where
           link : (l : ℕ) → l < linksOf w → LinkIs w′ l
           link l h =
-              let a : l < mostLinks = few-links l h in
+              let a : l < mostLinks = few-links sound l h in
               record {
                 good = rw (network-same .from l a, network-same .to l a, network-same .horizon l a, network-same .buffer l a)
                     (sound .link l h .good);
@@ -230,14 +223,14 @@ module _ {w w′ : Store} (s : Settled w w′) where
 
           row : (c j : ℕ) → c < channelsOf w → j < hopsOf w′ c → RowFor w′ c j (routeOf w′ c j)
           row c j h i =
-              let a : c < mostChannels = few-channels c h in
+              let a : c < mostChannels = few-channels sound c h in
               let k : j < hopsOf w c = rw (hops-kept c a) at i in
               let x = sound .row c j h k in
               let m : routeOf w c j < linksOf w = sound .channel c h .route .known j k in
-              rw (route-kept c a j (few-places c h j k))
+              rw (route-kept c a j (few-places sound c j h k))
               (record {
                 at = x .at;
-                inside = rw (rows-same (routeOf w c j) (few-links (routeOf w c j) m)) (x .inside);
+                inside = rw (rows-same (routeOf w c j) (few-links sound (routeOf w c j) m)) (x .inside);
                 channel = rw (same-channel (routeOf w c j) m (x .at) (x .inside)) (x .channel);
                 place = rw (same-place (routeOf w c j) m (x .at) (x .inside)) (x .place);
               })

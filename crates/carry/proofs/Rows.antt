@@ -15,7 +15,8 @@ use Rattle.traffic.proofs.Laws.Head.{MessageIs, message-is, entered-most}
 use Rattle.traffic.proofs.Laws.Pick.{picked}
 use Rattle.pick.specs.Picks.{picksTo}
 use Rattle.pick.proofs.Laws.{picks-at}
-use Rattle.moved.proofs.Leaves.{few-channels, few-places, Leaving, leaving}
+use Rattle.alike.proofs.Few.{few-channels, few-places}
+use Rattle.moved.proofs.Leaves.{Leaving, leaving}
 use Rattle.carry.specs.Sends.{mostPackets}
 
 -- what the picks say of link l

@@ -15,7 +15,8 @@ use Rattle.traffic.specs.Pick.{pickOf}
 use Rattle.traffic.specs.Slot.{movedTo, moved}
 use Rattle.moved.specs.Room.{leaves}
 use Rattle.moved.proofs.To.{rowSentAt, to-length, to-beside, to-there}
-use Rattle.moved.proofs.Leaves.{few-channels, few-places, leaving, row-leaving}
+use Rattle.alike.proofs.Few.{few-channels, few-places}
+use Rattle.moved.proofs.Leaves.{leaving, row-leaving}
 
 -- two places have one count only if they are one
 count-once : (c j c′ j′ : ℕ) → j < mostHops → j′ < mostHops → sentAt c j ≡ sentAt c′ j′ → (c ≡ c′) × (j ≡ j′)

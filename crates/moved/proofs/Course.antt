@@ -15,7 +15,8 @@ use Rattle.room.proofs.Laws.Sound.{both, Sound}
 use Rattle.alike.proofs.Settled.{CourseIs, c-kept, p-kept, hops-kept}
 use Rattle.traffic.specs.Slot.{moved}
 use Rattle.moved.specs.Room.{leaves}
-use Rattle.moved.proofs.Leaves.{few-channels, leaving-held}
+use Rattle.alike.proofs.Few.{few-channels}
+use Rattle.moved.proofs.Leaves.{leaving-held}
 use Rattle.moved.proofs.After.{moved-settled, messages-after, time-after, end-after, accepted-after}
 use Rattle.moved.proofs.After.{sent-goes, sent-stays, sent-rises}
 

@@ -6,7 +6,6 @@ use mathlib.Core.Bool.{true}
 use native.Mathlib.Decide.{decLt}
 use native.Mathlib.Omega.{arith}
 use borrow.Author.Tests.{ltb-true, eqb-true, eq-eqb}
-use Rattle.kinds.specs.Ranges.{mostChannels, mostHops}
 use Rattle.room.specs.Layout.{Store, linksOf, channelsOf, rowChannelOf, rowPlaceOf, hopsOf, routeOf, sentOf}
 use Rattle.room.specs.Amounts.{enteredOf}
 use Rattle.room.proofs.Laws.Sound.{Good345, RowIs, Sound}
@@ -39,12 +38,6 @@ pub record RowLeaving (w : Store) (c j : ℕ) : Type 0 where
   pub place : rowPlaceOf w (routeOf w c j) row ≡ j
 
 module _ {w : Store} (s : Sound w) where
-  pub few-channels : (c : ℕ) → c < channelsOf w → c < mostChannels
-  few-channels c h = omega (arith, s .counts .channels-most)
-
-  pub few-places : (c j : ℕ) → c < channelsOf w → j < hopsOf w c → j < mostHops
-  few-places c j h i = omega (arith, s .channel c h .hops-most)
-
   pub leaving : (l k : ℕ) → l < linksOf w → pickOf w l ≡ suc k → Leaving w l (rowChannelOf w l k) (rowPlaceOf w l k)
   leaving l k h e =
       let p = picked w l k e in

@@ -15,7 +15,8 @@ use Rattle.traffic.proofs.Laws.Head.{MessageIs, message-found, message-is, sent
 use Rattle.traffic.proofs.Laws.Ends.{message-same}
 use Rattle.traffic.proofs.Laws.Next.{NextIs, message-next}
 use Rattle.moved.specs.Room.{leaves}
-use Rattle.moved.proofs.Leaves.{few-channels, leaving-held}
+use Rattle.alike.proofs.Few.{few-channels}
+use Rattle.moved.proofs.Leaves.{leaving-held}
 use Rattle.moved.proofs.After.{moved-settled, messages-after, end-after, accepted-after, sent-goes, sent-stays}
 use Rattle.moved.proofs.Course.{course}
 

@@ -19,7 +19,8 @@ use Rattle.traffic.specs.Pick.{pickOf}
 use Rattle.traffic.specs.Slot.{moved}
 use Rattle.moved.specs.Room.{leaves, hasRoom, roomFrom, roomAfter}
 use Rattle.moved.proofs.HasRoom.{RoomIs, room-is, is-room}
-use Rattle.moved.proofs.Leaves.{few-channels, leaving, row-leaving}
+use Rattle.alike.proofs.Few.{few-channels}
+use Rattle.moved.proofs.Leaves.{leaving, row-leaving}
 use Rattle.moved.proofs.After.{moved-settled, accepted-after, clock-after, sent-goes, sent-stays, sent-rises}
 use Rattle.moved.proofs.Course.{course}
 

@@ -10,7 +10,8 @@ use Rattle.traffic.specs.Pick.{pickOf}
 use Rattle.traffic.specs.Slot.{moved}
 use Rattle.moved.specs.Room.{leaves}
 use Rattle.moved.proofs.To.{rowSentAt, to-beside}
-use Rattle.moved.proofs.Leaves.{few-places, leaving}
+use Rattle.alike.proofs.Few.{few-places}
+use Rattle.moved.proofs.Leaves.{leaving}
 use Rattle.moved.proofs.After.{beside-clock}
 
 pub still-record : {w : Store} → Sound w → (c : ℕ) → ((j : ℕ) → j < hopsOf w c → leaves w c j ≡ false) → SameRecord w (moved w) c
