@@ -1,0 +1,2 @@
+pub mod Keep
+pub mod Queue
