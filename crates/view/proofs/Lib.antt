@@ -1,0 +1,11 @@
+pub mod Seen
+pub mod Places
+pub mod Keys
+pub mod Planned
+pub mod Same
+pub mod Bounds
+pub mod Settled
+pub mod Counted
+pub mod Next
+pub mod Head
+pub mod InTime
