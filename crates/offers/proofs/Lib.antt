@@ -1,0 +1,12 @@
+pub mod Passed
+pub mod Time
+pub mod Kept
+pub mod Told
+pub mod Steady
+pub mod Each
+pub mod Near
+pub mod Order
+pub mod Live
+pub mod Room
+pub mod Seen
+pub mod Answer
