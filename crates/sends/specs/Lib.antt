@@ -1,0 +1,2 @@
+pub mod Sends
+pub mod Log
