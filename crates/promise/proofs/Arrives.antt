@@ -1,0 +1,34 @@
+-- What was sent was sent in time, and every accepted message arrives. Assumes nothing.
+use Prim.Native.Nat.{ℕ, suc, _-_, _<_}
+use mathlib.Core.Path.{_≡_, _∙_, sym, subst}
+use mathlib.Core.List.{List, _∷_, List·Memᴰ·head, List·Memᴰ·tail}
+use native.Mathlib.Omega.{arith}
+use Rattle.schedule.specs.Lists.{Every, _∈_}
+use Rattle.room.specs.Layout.{Store, hopsOf, routeOf}
+use Rattle.queue.specs.Queue.{endAfter}
+use Rattle.queue.specs.Keep.{keep}
+use Rattle.traffic.specs.Slot.{Send}
+use Rattle.sends.proofs.Arrived.{sent-early, arrived}
+use Rattle.sends.specs.Sends.{isMessage}
+use Rattle.promise.specs.Promise.{Event, sendsOn, deadlineAt, Arrives}
+use Rattle.promise.specs.Promise.Event.{accepted}
+use Rattle.promise.proofs.History.{messagesIn}
+use Rattle.promise.proofs.Invariant.{Invariant, IsMessage}
+use Rattle.promise.proofs.Offer.{names-of}
+
+pub every-in : {A : Type 0} (P : A → Type 0) (xs : List A) → Every P xs → (x : A) → x ∈ xs → P x
+every-in P (y ∷ xs) e x (List·Memᴰ·head same) = subst P (sym same) (e .0)
+every-in P (y ∷ xs) e x (List·Memᴰ·tail m) = every-in P xs (e .1) x m
+
+pub sent-in-time : {w : Store} {h : List Event} → Invariant w h → (c j m l k : ℕ) → accepted c m l k ∈ h → j < hopsOf w c
+    → Every (λ (x : Send). x .slot < deadlineAt w h c j l) (keep (isMessage m) (sendsOn h c (routeOf w c j)))
+sent-in-time {w} {h} i c j m l k there inside =
+    let e : IsMessage w (messagesIn h) c m l k = every-in _ h (i .events) (accepted c m l k) there in
+    rw (e .time) at (sent-early (i .logged) c j m inside)
+
+pub arrives : {w : Store} {h : List Event} → Invariant w h → Arrives w h
+arrives {w} {h} i c m l k there past =
+    let e : IsMessage w (messagesIn h) c m l k = every-in _ h (i .events) (accepted c m l k) there in
+    let size : endAfter (messagesIn h c) (suc m) - endAfter (messagesIn h c) m ≡ k = omega (arith, e .size) in
+    let a = arrived (i .seen) (i .steady) (i .within) (i .logged) c m (e .channel) (e .inside) (omega (arith, e .time)) in
+    (a .0 ∙ (rw size (sym (names-of m l k))), rw (e .time) at (a .1))

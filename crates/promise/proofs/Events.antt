@@ -1,0 +1,49 @@
+-- What has happened stays so: a store that has the numbers of every channel, and perhaps more messages, says the same of each
+-- event. Assumes nothing.
+use Prim.Native.Nat.{ℕ, suc, _<_}
+use mathlib.Core.Path.{_∙_}
+use mathlib.Core.List.{List, [], _∷_}
+use native.Mathlib.Omega.{arith}
+use Rattle.schedule.specs.Lists.{Every}
+use Rattle.room.specs.Layout.{Store, channelsOf}
+use Rattle.alike.proofs.Numbers.{SameNumbers}
+use Rattle.opening.specs.declared.Opening.{Opening}
+use Rattle.opening.specs.Request.{Request}
+use Rattle.queue.proofs.More.{Longer}
+use Rattle.view.specs.View.{Accepted}
+use Rattle.promise.specs.Promise.{Event, AsOpened}
+use Rattle.promise.specs.Promise.Event.{opened, accepted, sent}
+use Rattle.promise.proofs.Invariant.{IsMessage, EventIs}
+
+module _ {w w′ : Store} {all all′ : Accepted} (same : (c : ℕ) → c < channelsOf w → SameNumbers w w′ c)
+    (longer : (c : ℕ) → c < channelsOf w → Longer (all c) (all′ c)) where
+  opened-stays : (c : ℕ) (q : Request) (answer : Opening) → AsOpened w c q answer → AsOpened w′ c q answer
+  opened-stays c q answer o =
+      let s = same c (o .number) in
+      record {
+        number = s .there;
+        c-is = s .c-is ∙ o .c-is;
+        p-is = s .p-is ∙ o .p-is;
+        d-is = s .d-is ∙ o .d-is;
+        b-is = s .b-is ∙ o .b-is;
+        hops-are = s .hops-are ∙ o .hops-are;
+        route-is = λ j h. s .route-is j (rw (o .hops-are) h) ∙ o .route-is j h;
+        delay-is = λ j h. s .delay-is j (rw (o .hops-are) h) ∙ o .delay-is j h;
+        reserved-is = λ j h. s .reserved-is j (rw (o .hops-are) h) ∙ o .reserved-is j h;
+      }
+
+  message-stays : (c m l k : ℕ) → IsMessage w all c m l k → IsMessage w′ all′ c m l k
+  message-stays c m l k o =
+      let g = longer c (o .channel) in
+      record {
+        channel = same c (o .channel) .there;
+        inside = omega (arith, o .inside, g .count);
+        time = g .time m (o .inside) ∙ o .time;
+        size = rw (g .end (suc m) (o .inside), g .end m (omega (arith, o .inside))) (o .size);
+      }
+
+  pub events-stay : (h : List Event) → Every (EventIs w all) h → Every (EventIs w′ all′) h
+  events-stay [] e = tt
+  events-stay (opened c q answer ∷ h) e = (opened-stays c q answer (e .0), events-stay h (e .1))
+  events-stay (accepted c m l k ∷ h) e = (message-stays c m l k (e .0), events-stay h (e .1))
+  events-stay (sent x ∷ h) e = (tt, events-stay h (e .1))

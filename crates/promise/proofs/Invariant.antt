@@ -1,0 +1,54 @@
+-- The invariant of reached stores: what holds of a store and of all that has happened. Set-up makes it, every call keeps it.
+use Prim.Native.Nat.{ℕ, suc, _+_, _<_}
+use mathlib.Core.Path.{_≡_}
+use mathlib.Core.List.{List, _++_, map, Memᴰ·append-left}
+use lib.ListN.{length}
+use Rattle.schedule.specs.Lists.{Every}
+use Rattle.schedule.specs.Messages.{Message}
+use Rattle.room.specs.Layout.{Store, channelsOf}
+use Rattle.queue.specs.Queue.{timeAt, endAfter, packetsFrom}
+use Rattle.view.specs.View.{Accepted}
+use Rattle.view.proofs.Seen.{Seen, Steady, Near, InBurst, Within}
+use Rattle.sends.specs.Log.{Logged}
+use Rattle.promise.specs.Promise.{Event, Packet, packetsIn, sendsIn, nameOf, AsOpened, WasOpened}
+use Rattle.promise.specs.Promise.Event.{opened, accepted, sent}
+use Rattle.promise.proofs.History.{messagesIn}
+
+-- an accepted message is one of its channel's
+pub record IsMessage (w : Store) (all : Accepted) (c message logical packets : ℕ) : Type 0 where
+  pub channel : c < channelsOf w
+  pub inside : message < length (all c)
+  pub time : timeAt (all c) message ≡ logical
+  pub size : endAfter (all c) (suc message) ≡ endAfter (all c) message + packets
+
+-- what the store says of an event
+abbrev pub EventIs : (w : Store) (all : Accepted) → Event → Type 0
+EventIs w all (opened c q answer) = AsOpened w c q answer
+EventIs w all (accepted c message logical packets) = IsMessage w all c message logical packets
+EventIs w all (sent x) = Unit {0}
+
+-- a packet's message is one of these, and has that logical time
+abbrev pub Timed : List Message → Packet → Type 0
+Timed ms x = (x .message < length ms) × (x .logical ≡ timeAt ms (x .message))
+
+pub record Invariant (w : Store) (h : List Event) : Type 0 where
+  -- the store is sound, every link's rows are feasible, and the store tells of the messages that were accepted
+  pub seen : Seen w (messagesIn h)
+  -- J for every link
+  pub steady : Steady w (messagesIn h)
+  -- packets that were sent on are within the horizon, and the source's times within the burst
+  pub near : Near w (messagesIn h)
+  pub burst : InBurst w (messagesIn h)
+  -- the delays of a channel are within D
+  pub within : Within w
+  -- what was sent on each link is the channel's packets in order, each in time
+  pub logged : Logged w (messagesIn h) (sendsIn h)
+  -- what has happened, channel by channel and event by event
+  pub names : (c : ℕ) → map nameOf (packetsIn h c) ≡ packetsFrom 0 0 (messagesIn h c)
+  pub logicals : (c : ℕ) → Every (Timed (messagesIn h c)) (packetsIn h c)
+  pub events : Every (EventIs w (messagesIn h)) h
+  pub known : (c : ℕ) → c < channelsOf w → WasOpened h c
+
+-- what has happened has happened
+pub still-opened : (h more : List Event) (c : ℕ) → WasOpened h c → WasOpened (h ++ more) c
+still-opened h more c o = record { request = o .request; answer = o .answer; there = Memᴰ·append-left more (o .there) }

@@ -1,0 +1,80 @@
+-- "whether a message is accepted, and its logical time, depends only on that channel's numbers, its own accepted messages, the
+-- packets offered and the present slot". Assumes nothing.
+use Prim.Native.Nat.{ℕ, zero, suc, _-_, _*_}
+use mathlib.Core.Path.{_≡_, refl, ap, _∙_, sym}
+use mathlib.Core.Bool.{Bool, true, false}
+use mathlib.Core.List.{List, map}
+use lib.Dec.{leb, ltb}
+use lib.ListN.{length, length-map}
+use borrow.Author.Tests.{ltb-true, lt-ltb}
+use Rattle.kinds.specs.Ranges.{within, endSlot}
+use Rattle.kinds.proofs.Laws.{within-true}
+use Rattle.room.specs.Layout.{Store, channelsOf, clockOf, cOf, messagesOf}
+use Rattle.room.specs.Sound.{soundOf}
+use Rattle.room.proofs.Laws.Sound.{is-sound}
+use Rattle.checks.specs.Checks.{firstFailed}
+use Rattle.schedule.specs.Messages.{Message}
+use Rattle.opening.specs.declared.Opening.{Opening}
+use Rattle.opening.specs.Request.{Request}
+use Rattle.traffic.specs.Offer.{offerTime, inBurst, offered, offerAnswer}
+use Rattle.offers.proofs.Time.{offer-time-first, offer-time-next}
+use Rattle.offers.proofs.Seen.{offer-sound}
+use Rattle.promise.specs.Promise.{Event, timesIn, ownTime, ownAnswer, AsOpened}
+use Rattle.promise.proofs.History.{messagesIn, times-are, own-first, own-next}
+use Rattle.promise.proofs.Invariant.{Invariant}
+
+module _ {w : Store} {h : List Event} (i : Invariant w h) (c : ℕ) (q : Request) (answer : Opening) (o : AsOpened w c q answer)
+    (packets : ℕ) where
+  abbrev ms : List Message
+  ms = messagesIn h c
+
+  times : timesIn h c ≡ map (λ m. m .time) ms
+  times = times-are 0 h c
+
+  -- the logical time
+  time-is : offerTime w c ≡ ownTime (q .p) (clockOf w) (timesIn h c)
+  time-is = rw times (go (length ms) refl)
+    where
+      go : (n : ℕ) → length ms ≡ n → offerTime w c ≡ ownTime (q .p) (clockOf w) (map (λ m. m .time) ms)
+      go zero e = offer-time-first (i .seen .told c (o .number)) e ∙ sym (own-first (q .p) (clockOf w) ms e)
+      go (suc n) e =
+          offer-time-next (i .seen .told c (o .number)) n e
+          ∙ rw (o .p-is) (sym (own-next (q .p) (clockOf w) ms n e))
+
+  count-is : messagesOf w c ≡ length (timesIn h c)
+  count-is = i .seen .told c (o .number) .count ∙ (sym (length-map ms (λ m. m .time)) ∙ ap length (sym times))
+
+  burst-is : inBurst w c ≡ leb (ownTime (q .p) (clockOf w) (timesIn h c) - clockOf w) ((q .b - 1) * q .p)
+  burst-is = rw (time-is, o .b-is, o .p-is)
+
+  -- the first three checks that an offer of this channel can fail, as the rule has them
+  known : ltb c (channelsOf w) ≡ true
+  known = lt-ltb c (channelsOf w) (o .number)
+
+  size-is : within 1 (cOf w c) packets ≡ within 1 (q .c) packets
+  size-is = rw (o .c-is)
+
+  -- and where they hold, the store after the offer is sound
+  sound : ltb (clockOf w) endSlot ≡ true → within 1 (q .c) packets ≡ true → inBurst w c ≡ true
+      → soundOf (offered w c packets) ≡ true
+  sound e f g =
+      let size = within-true 1 (cOf w c) packets (size-is ∙ f) in
+      offer-sound (i .seen) (record {
+        running = ltb-true (clockOf w) endSlot e;
+        known = o .number;
+        least = size .0;
+        most = size .1;
+        burst = g;
+      }) (i .steady) (i .burst)
+
+  pub own-answer : offerAnswer w c packets ≡ ownAnswer q (timesIn h c) packets (clockOf w)
+  unfolding offerAnswer ownAnswer firstFailed
+  own-answer = go (ltb (clockOf w) endSlot) (within 1 (q .c) packets) (inBurst w c) refl refl refl
+    where
+      go : (a b d : Bool) → ltb (clockOf w) endSlot ≡ a → within 1 (q .c) packets ≡ b → inBurst w c ≡ d
+          → offerAnswer w c packets ≡ ownAnswer q (timesIn h c) packets (clockOf w)
+      go false b d e f g = rw (is-sound w (i .seen .sound), e)
+      go true false d e f g = rw (is-sound w (i .seen .sound), e, known, size-is, f)
+      go true true false e f g = rw (is-sound w (i .seen .sound), e, known, size-is, f, g, ← burst-is, g)
+      go true true true e f g =
+          rw (is-sound w (i .seen .sound), e, known, size-is, f, g, sound e f g, ← burst-is, g, ← count-is, ← time-is)

@@ -1,0 +1,72 @@
+-- A channel's packets by number: what has happened, as crate `queue` has it. Assumes nothing.
+use Prim.Native.Nat.{ℕ, zero, suc, _+_, _-_, _≤_, _<_}
+use mathlib.Core.Path.{_≡_, refl, ap, _∙_, sym}
+use mathlib.Core.List.{List, [], _∷_, _++_, map}
+use native.Mathlib.Omega.{arith}
+use native.Mathlib.Decide.{decLt}
+use lib.ListN.{length, getD, take, drop, length-map, List·getD-map}
+use lib.Seq.{take-suc}
+use Rattle.schedule.specs.Lists.{Every}
+use Rattle.schedule.specs.Messages.{Message, Orderly, ended}
+use Rattle.schedule.proofs.Lists.{same-at}
+use Rattle.queue.specs.Queue.{endAfter, passed, packetsFrom}
+use Rattle.queue.proofs.Ends.{end-all}
+use Rattle.queue.proofs.Few.{passed-end, passed-next}
+use Rattle.queue.proofs.Packets.{packets-length, packet-next}
+use Rattle.promise.specs.Promise.{Packet, nameOf}
+
+-- what holds of each from number a up to number b
+pub every-between : {A : Type 0} (P : A → Type 0) (d : A) (xs : List A) (a b : ℕ)
+    → ((i : ℕ) → a ≤ i → i < b → i < length xs → P (getD xs i d)) → Every P (drop a (take b xs))
+every-between P d [] zero zero f = tt
+every-between P d [] zero (suc b) f = tt
+every-between P d [] (suc a) zero f = tt
+every-between P d [] (suc a) (suc b) f = tt
+every-between P d (x ∷ xs) zero zero f = tt
+every-between P d (x ∷ xs) (suc a) zero f = tt
+every-between P d (x ∷ xs) zero (suc b) f = (
+  f 0 (omega arith) (omega arith) (omega arith),
+  every-between P d xs zero b (λ i h k l. f (suc i) (omega arith) (omega arith) (omega arith)),
+)
+every-between P d (x ∷ xs) (suc a) (suc b) f =
+    every-between P d xs a b (λ i h k l. f (suc i) (omega arith) (omega arith) (omega arith))
+
+-- and back
+pub every-get : {A : Type 0} (P : A → Type 0) (d : A) (xs : List A) → Every P xs → (i : ℕ) → i < length xs → P (getD xs i d)
+every-get P d [] e i h = absurd (omega arith)
+every-get P d (x ∷ xs) e zero h = e .0
+every-get P d (x ∷ xs) e (suc i) h = every-get P d xs (e .1) i (omega arith)
+
+-- Packet number x is of message n.
+pub record Of (ms : List Message) (x n : ℕ) : Type 0 where
+  pub inside : n < length ms
+  pub starts : endAfter ms n ≤ x
+  pub ends : x < endAfter ms (suc n)
+
+module _ (c p : ℕ) (ms : List Message) (o : Orderly c p 0 0 ms) where
+  pub message-of : (x : ℕ) → x < ended 0 ms → Of ms x (passed x ms)
+  message-of x h = go (decLt (passed x ms) (length ms))
+    where
+      go : Dec (passed x ms < length ms) → Of ms x (passed x ms)
+      go (yes l) = record {
+        inside = l;
+        starts = passed-end c p ms o x (passed x ms) (omega arith);
+        ends = passed-next c p ms o x (passed x ms) (omega arith) l;
+      }
+      go (no l) =
+          let e : length ms ≤ passed x ms = omega (arith, l) in
+          absurd (omega (arith, passed-end c p ms o x (length ms) e, end-all ms))
+
+  -- by its message and its number there
+  module _ (xs : List Packet) (names : map nameOf xs ≡ packetsFrom 0 0 ms) (d : Packet) where
+    pub packets-count : length xs ≡ ended 0 ms
+    packets-count = sym (length-map xs nameOf) ∙ (ap length names ∙ packets-length c p ms o)
+
+    pub packet-name : (x n : ℕ) → Of ms x n → x < ended 0 ms → nameOf (getD xs x d) ≡ (n, x - endAfter ms n)
+    packet-name x n i h =
+        let all : List (ℕ × ℕ) = packetsFrom 0 0 ms in
+        let l : x < length all = omega (arith, packets-length c p ms o) in
+        let e : take x all ++ (getD all x (nameOf d) ∷ []) ≡ take x all ++ ((n, x - endAfter ms n) ∷ []) =
+        sym (take-suc all x (nameOf d) l) ∙ packet-next c p ms o n x (i .inside) (i .starts) (i .ends) in
+        sym (List·getD-map nameOf xs x d) ∙ (ap (λ (ys : List (ℕ × ℕ)). getD ys x (nameOf d)) names
+        ∙ same-at (take x all) (take x all) [] [] _ _ e refl)

@@ -1,0 +1,103 @@
+-- The theorem: whatever calls come in whatever order, all that specs/Promise.antt promises holds. Set-up makes the invariant,
+-- each call keeps it, and each statement follows from it. Assumes nothing.
+use Prim.Native.Nat.{ℕ}
+use mathlib.Core.Path.{_≡_, refl}
+use mathlib.Core.List.{List, _++_, map, append-nil}
+use native.Mathlib.Omega.{arith}
+use Rattle.room.specs.Layout.{Store}
+use Rattle.room.proofs.Laws.Sound.{is-sound}
+use Rattle.opening.specs.declared.Outcome.{Outcome}
+use Rattle.opening.specs.declared.Outcome.the-variants.{Accepted as Opened, Refused as NotOpened}
+use Rattle.opening.specs.Request.{Request}
+use Rattle.opening.specs.Open.{openOutcome, openAnswer, openStore}
+use Rattle.traffic.specs.declared.Offered.{Offered}
+use Rattle.traffic.specs.declared.Offered.the-variants.{Accepted, Refused}
+use Rattle.traffic.specs.declared.Turn.{Turn}
+use Rattle.traffic.specs.declared.Turn.the-variants.{Ran, Refused as NotRun}
+use Rattle.traffic.specs.Offer.{offerAnswer, offerStore}
+use Rattle.traffic.specs.Slot.{slotTurn, slotNumber, slotSent, slotStore}
+use Rattle.admission.proofs.Laws.{never-17 as open-never}
+use Rattle.opens.proofs.Granted.{refused-store as refused-open}
+use Rattle.offers.proofs.Answer.{never-17 as offer-never}
+use Rattle.slots.proofs.Never.{never-17 as slot-never}
+use Rattle.promise.specs.Promise.{Call, Event, storeAfter, eventsIn, openEvents, offerEvents, Reached, Never17, Promise}
+use Rattle.promise.specs.Promise.Event.{sent}
+use Rattle.promise.specs.Promise.Call.{opens, offers, runs}
+use Rattle.promise.specs.Promise.Reached.{fresh, next}
+use Rattle.promise.proofs.Invariant.{Invariant}
+use Rattle.promise.proofs.Holds.{held-in-time, never-over, in-order, conserved}
+use Rattle.promise.proofs.Open.{set-up-makes, open-keeps}
+use Rattle.promise.proofs.Offer.{offer-keeps}
+use Rattle.promise.proofs.Slot.{slot-keeps}
+use Rattle.promise.proofs.Own.{own-answer}
+use Rattle.promise.proofs.Arrives.{every-in, sent-in-time, arrives}
+
+refused-offer : (w : Store) (c packets number place : ℕ) → offerAnswer w c packets ≡ Refused number place
+    → offerStore w c packets ≡ w
+unfolding offerStore
+refused-offer w c packets number place e = rw e
+
+module _ {w : Store} {h : List Event} (i : Invariant w h) where
+  -- each call; a refused one changes nothing
+  open-call : (q : Request) → Invariant (storeAfter (opens q) w) (h ++ eventsIn (opens q) w)
+  unfolding storeAfter eventsIn openEvents
+  open-call q = go (openOutcome w q) refl
+    where
+      go : (o : Outcome) → openOutcome w q ≡ o → Invariant (openStore w q) (h ++ openEvents (openOutcome w q) q (openAnswer w q))
+      go (Opened n) e = rw e (open-keeps i q n e)
+      go (NotOpened number place) e = rw (refused-open w q number place e, e, append-nil h) i
+
+  offer-call : (c packets : ℕ) → Invariant (storeAfter (offers c packets) w) (h ++ eventsIn (offers c packets) w)
+  unfolding storeAfter eventsIn offerEvents
+  offer-call c packets = go (offerAnswer w c packets) refl
+    where
+      go : (a : Offered) → offerAnswer w c packets ≡ a
+          → Invariant (offerStore w c packets) (h ++ offerEvents (offerAnswer w c packets) c packets)
+      go (Accepted n time) e = rw e (offer-keeps i c packets n time e)
+      go (Refused number place) e = rw (refused-offer w c packets number place e, e, append-nil h) i
+
+  slot-call : (room : ℕ) → Invariant (storeAfter (runs room) w) (h ++ eventsIn (runs room) w)
+  unfolding storeAfter eventsIn
+  slot-call room = go (slotTurn w room) refl
+    where
+      go : (t : Turn) → slotTurn w room ≡ t → Invariant (slotStore w room) (h ++ map sent (slotSent w room))
+      go Ran e = slot-keeps i room e
+      go (NotRun number place) e = rw (e, append-nil h) i
+
+  any-call : (x : Call) → Invariant (storeAfter x w) (h ++ eventsIn x w)
+  any-call (opens q) = open-call q
+  any-call (offers c packets) = offer-call c packets
+  any-call (runs room) = slot-call room
+
+  slot-number : (room : ℕ) (t : Turn) → slotTurn w room ≡ t → slotNumber w room ≡ 17 → ⊥
+  slot-number room Ran e f = let z : _≡_ {A = ℕ} 0 17 = rw e at f in omega arith
+  slot-number room (NotRun number place) e f =
+      let z : number ≡ 17 = rw e at f in
+      slot-never (i .seen) (i .steady) (i .near) room place (rw z at e)
+
+  never-17 : Never17 w h
+  never-17 = (
+    (λ q. open-never w q (is-sound w (i .seen .sound))),
+    (offer-never (i .seen) (i .steady) (i .burst)),
+    (λ room e. slot-number room (slotTurn w room) refl (omega (arith, e))),
+  )
+
+-- the invariant of every store that is reached
+pub holds : (w : Store) (h : List Event) → Reached w h → Invariant w h
+holds w h (fresh w₀ links e) = set-up-makes w₀ links e
+holds w h (next w₀ h₀ r x) = any-call (holds w₀ h₀ r) x
+
+pub promise : (w : Store) (h : List Event) → Reached w h → Promise w h
+promise w h r =
+    let i : Invariant w h = holds w h r in
+    record {
+      never-late = (held-in-time i, sent-in-time i);
+      never-over = never-over i;
+      in-order = in-order i;
+      arrives = arrives i;
+      conserved = conserved i;
+      never-17 = never-17 i;
+      own-rule = λ c q answer m packets. own-answer i c q answer (every-in _ h (i .events) _ m) packets;
+      as-opened = λ c q answer m. every-in _ h (i .events) _ m;
+      was-opened = i .known;
+    }

@@ -1,0 +1,30 @@
+-- A skip is so many slots, each of which runs and sends nothing: the store that it leaves is reached too, and nothing has
+-- happened. Assumes nothing.
+use Prim.Native.Nat.{ℕ, zero, suc, _*_, _≤_}
+use mathlib.Core.List.{List, append-nil}
+use native.Mathlib.Nat.{min-le-right}
+use native.Mathlib.Omega.{arith}
+use Rattle.room.specs.Layout.{Store, linksOf}
+use Rattle.room.proofs.Laws.Sound.{is-sound}
+use Rattle.traffic.specs.Idle.{idleOf, skipped, skipStore}
+use Rattle.wait.specs.Run.{run}
+use Rattle.wait.proofs.Run.{run-sent, skip-runs}
+use Rattle.promise.specs.Promise.{Event, storeAfter, eventsIn, Reached}
+use Rattle.promise.specs.Promise.Call.{runs}
+use Rattle.promise.specs.Promise.Reached.{next}
+use Rattle.promise.proofs.Promise.{holds}
+
+module _ (w : Store) (h : List Event) (r : Reached w h) where
+  -- the least output that a slot takes
+  abbrev room : ℕ
+  room = 5 * linksOf w
+
+  run-reached : (m : ℕ) → m ≤ idleOf w → Reached (run w room m) h
+  unfolding run storeAfter eventsIn
+  run-reached zero l = r
+  run-reached (suc m) l =
+      let none = run-sent w (is-sound w (holds w h r .seen .sound)) room (omega arith) m (omega arith) in
+      rw (none, append-nil h) at (next (run w room m) h (run-reached m (omega arith)) (runs room))
+
+  pub skip-reached : (n : ℕ) → Reached (skipStore w n) h
+  skip-reached n = rw (skip-runs w room n (omega arith)) (run-reached (skipped w n) (min-le-right n (idleOf w)))

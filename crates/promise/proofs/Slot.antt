@@ -1,0 +1,73 @@
+-- A slot keeps the invariant. Assumes nothing.
+use Prim.Native.Nat.{ℕ, _<_}
+use mathlib.Core.Path.{_≡_, refl, _∙_, fun-ext}
+use mathlib.Core.List.{List, [], _∷_, _++_, map}
+use native.Mathlib.Omega.{arith}
+use borrow.Author.Tests.{ltb-true}
+use Rattle.schedule.specs.Lists.{Every}
+use Rattle.kinds.specs.Ranges.{endSlot}
+use Rattle.schedule.proofs.Lists.{every-append}
+use Rattle.room.specs.Layout.{Store, clockOf}
+use Rattle.alike.proofs.Settled.{channels-same}
+use Rattle.checks.proofs.Laws.{accepted-all}
+use Rattle.traffic.specs.declared.Turn.the-variants.{Ran, Refused as NotRun}
+use Rattle.traffic.specs.Slot.{Send, slotSends, moved, slotChecks, slotTurn, slotSent, slotStore}
+use Rattle.moved.proofs.After.{moved-settled}
+use Rattle.view.specs.View.{Accepted}
+use Rattle.slots.proofs.Steady.{steady-after}
+use Rattle.slots.proofs.Kept.{near-after, in-burst-after, within-after}
+use Rattle.slots.proofs.Sound.{seen-after}
+use Rattle.sends.proofs.After.{slot-logged}
+use Rattle.queue.proofs.More.{as-long}
+use Rattle.promise.specs.Promise.{Event, packetsIn, sendsIn}
+use Rattle.promise.specs.Promise.Event.{sent}
+use Rattle.alike.proofs.Numbers.{settled-numbers}
+use Rattle.promise.proofs.History.{messagesIn, messages-same, packets-same, sends-without, sends-on, sends-sent}
+use Rattle.promise.proofs.Invariant.{Invariant, EventIs, still-opened}
+use Rattle.promise.proofs.Events.{events-stay}
+
+events-of : (w : Store) (all : Accepted) (xs : List Send) → Every (EventIs w all) (map sent xs)
+events-of w all [] = tt
+events-of w all (x ∷ xs) = (tt, events-of w all xs)
+
+module _ {w : Store} {h : List Event} (i : Invariant w h) (room : ℕ) (r : slotTurn w room ≡ Ran) where
+  abbrev sends : List Event
+  sends = map sent (slotSends w)
+
+  running : clockOf w < endSlot
+  unfolding slotTurn
+  running =
+      let all = accepted-all NotRun (slotChecks w room) Ran Ran (λ m at e. let z : _≡_ {A = ℕ} 0 1 = cc in omega arith) r in
+      ltb-true (clockOf w) endSlot (all .1 .0)
+
+  without : (c : ℕ) → messagesIn (h ++ sends) c ≡ messagesIn h c
+  without c = messages-same c h sends (sends-without c (slotSends w))
+
+  packets : (c : ℕ) → packetsIn (h ++ sends) c ≡ packetsIn h c
+  packets c = packets-same c h sends (sends-without c (slotSends w))
+
+  same : messagesIn (h ++ sends) ≡ messagesIn h
+  same = fun-ext without
+
+  all-sends : sendsIn (h ++ sends) ≡ sendsIn h ++ slotSends w
+  all-sends = sends-on h sends ∙ rw (sends-sent (slotSends w))
+
+  after : Invariant (moved w) (h ++ sends)
+  after = record {
+    seen = rw same (seen-after (i .seen) (i .steady) (i .near) running);
+    steady = rw same (steady-after (i .seen) (i .steady));
+    near = rw same (near-after (i .seen) (i .near));
+    burst = rw same (in-burst-after (i .seen) (i .burst));
+    within = within-after (i .seen) (i .within);
+    logged = rw (same, all-sends) (slot-logged (i .seen) (i .steady) (i .logged));
+    names = λ c. rw (packets c, without c) (i .names c);
+    logicals = λ c. rw (packets c, without c) (i .logicals c);
+    events = rw same (every-append (EventIs (moved w) (messagesIn h)) h sends
+        (events-stay (settled-numbers (i .seen .sound) (moved-settled (i .seen .sound)))
+        (λ c k. as-long (messagesIn h c) (messagesIn h c) refl) h (i .events))
+        (events-of (moved w) (messagesIn h) (slotSends w)));
+    known = λ c k. still-opened h sends c (i .known c (rw (channels-same (moved-settled (i .seen .sound))) at k));
+  }
+
+  pub slot-keeps : Invariant (slotStore w room) (h ++ map sent (slotSent w room))
+  slot-keeps = rw r after
