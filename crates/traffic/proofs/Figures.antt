@@ -1,4 +1,4 @@
--- Document 01's figures on offering, and a packet on its way, computed from the definitions. Assumes nothing.
+-- The offers of document 01's listing, and a packet on its way, computed from the definitions. Assumes nothing.
 use Prim.Native.Nat.{ℕ}
 use mathlib.Core.Path.{_≡_, refl}
 use lib.ListN.{replicate, take, drop}
@@ -18,27 +18,6 @@ use Rattle.traffic.specs.Slot.{movedTo, moved}
 -- what 14, 11, 12 and 13 say of an offer
 outcome : Store → (c packets : ℕ) → Offered
 outcome w c packets = firstFailed Refused (take 4 (drop 1 (offerChecks w c packets))) (Accepted (messagesOf w c) (offerTime w c))
-
--- a store in which channel 0 has C 1, p 10 and B 2
-spaced : Store
-spaced = withB (withP (withC (withChannels (replicate 2_000 0) 1) 0 1) 0 10) 0 2
-
--- it has accepted messages at 0 and 10, and the present slot is `clock`
-burst : (clock : ℕ) → Store
-burst clock = withClock (withTime (withTime (withMessages spaced 0 2) 0 1 0) 0 2 10) clock
-
--- "B 2, p 10, accepted 0 and 10: slot 9 refused, slot 10 gives 20, slot 25 gives 25."
-nine : outcome (burst 9) 0 1 ≡ Refused 13 0
-unfolding outcome spaced burst firstFailed
-nine = refl
-
-ten : outcome (burst 10) 0 1 ≡ Accepted 2 20
-unfolding outcome spaced burst firstFailed
-ten = refl
-
-twenty-five : outcome (burst 25) 0 1 ≡ Accepted 2 25
-unfolding outcome spaced burst firstFailed
-twenty-five = refl
 
 -- the listing's channels 0 and 1, and channel 0 after its first and its second message
 opened : Store
@@ -79,6 +58,10 @@ unknown-first = refl
 size-first : outcome twice 0 3 ≡ Refused 12 0
 unfolding outcome opened once twice offered firstFailed
 size-first = refl
+
+-- a store in which channel 0 has C 1, p 10 and B 2
+spaced : Store
+spaced = withB (withP (withC (withChannels (replicate 2_000 0) 1) 0 1) 0 10) 0 2
 
 -- Channel 0 goes over links 0 and 1, with delay 1 on each and a message of one packet at 0. Both links send up to 4 slots early.
 two-links : Store
