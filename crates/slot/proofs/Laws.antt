@@ -17,7 +17,9 @@ use Rattle.traffic.specs.declared.Turn.the-variants.{Ran, Refused}
 use Rattle.traffic.specs.Slot.{Send, numbers, slotSends, moved, slotChecks, slotTurn, slotNumber, slotPlace, slotSent, slotStore}
 use Rattle.traffic.specs.Slot.{written, slotOut}
 use Rattle.traffic.proofs.Laws.Sends.{numbers-length, sends-most, written-none}
-use Rattle.turn.proofs.Checks.{never-ran}
+use Rattle.pick.specs.Picks.{picksTo}
+use Rattle.turn.specs.Left.{picksLeft}
+use Rattle.turn.proofs.Checks.{never-ran, picks-made}
 
 -- "slot 17, 14, 15"; "where none is named it is 0"
 abbrev pub Refusal : (number place : ℕ) → Type 0
@@ -42,6 +44,10 @@ module _ (w : Store) (room : ℕ) where
 
     pub slot-sound : soundOf (slotStore w room) ≡ true
     slot-sound = rw e (holds .1 .1 .1 .0)
+
+    -- and its picks are what the links pick
+    pub ran-picks : (held : List ℕ) → picksLeft w room held ≡ picksTo w (linksOf w)
+    ran-picks held = picks-made w room held (holds .0, (holds .1 .0, (holds .1 .1 .0, tt)))
 
     sends-fit : 5 * length (slotSends w) ≤ room
     sends-fit = omega (arith, ran-room, sends-most w (linksOf w))

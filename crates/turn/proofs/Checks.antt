@@ -15,8 +15,10 @@ use Rattle.checks.specs.Checks.{Check}
 use Rattle.checks.proofs.Laws.{AllHold, all-passed, fails-after}
 use Rattle.traffic.specs.declared.Turn.the-variants.{Ran, Refused}
 use Rattle.traffic.specs.Slot.{moved, slotChecks, slotTurn}
+use Rattle.pick.specs.Picks.{picksTo}
 use Rattle.moved.specs.Room.{roomAfter}
 use Rattle.moved.proofs.Sound.{moved-sound}
+use Rattle.turn.specs.Left.{picksLeft}
 
 -- 14 and 15, on the numbers as the code reads them
 module _ {x clock : ℕ} (e : x ≡ clock) where
@@ -50,3 +52,12 @@ module _ (w : Store) (room : ℕ) where
   pub turn-ran : AllHold (slotChecks w room) → slotTurn w room ≡ Ran
   unfolding slotTurn
   turn-ran h = all-passed Refused (slotChecks w room) Ran h
+
+  -- what is left in the lent array: what it held, where one of the first three checks fails; else what the links pick
+  module _ (held : List ℕ) where
+    pub picks-stay : {x : Check} {rest : List Check} (k : ℕ) → drop k (take 3 (slotChecks w room)) ≡ x ∷ rest
+        → AllHold (take k (take 3 (slotChecks w room))) → x .holds ≡ false → held ≡ picksLeft w room held
+    picks-stay k e h f = fails-after (λ number place. held) (take 3 (slotChecks w room)) k (picksTo w (linksOf w)) e h f
+
+    pub picks-made : AllHold (take 3 (slotChecks w room)) → picksLeft w room held ≡ picksTo w (linksOf w)
+    picks-made h = all-passed (λ number place. held) (take 3 (slotChecks w room)) (picksTo w (linksOf w)) h

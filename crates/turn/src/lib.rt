@@ -10,10 +10,10 @@ ghost use Prim.Native.Nat.{_<_};
 ghost use Rattle.room.specs.Layout.{linksOf, channelsOf, hopsOf};
 ghost use Rattle.room.specs.Folds.{every};
 ghost use Rattle.room.specs.Sound.{soundOf};
-ghost use Rattle.traffic.specs.declared.Turn.the-variants.{Ran};
 ghost use Rattle.traffic.specs.Slot.{slotTurn};
 ghost use Rattle.pick.specs.Picks.{picksTo};
 ghost use Rattle.moved.specs.Room.{leaves as leavesAt, hasRoom, roomAfter};
+ghost use Rattle.turn.specs.Left.{picksLeft};
 
 // Whether a packet of channel `c` leaves place `j` of its route in this slot.
 fn leaves(store: &[u64], picks: &[u64; 16], c: usize, j: usize) -> bool
@@ -81,11 +81,11 @@ fn fits(store: &[u64], picks: &[u64; 16]) -> bool
     true
 }
 
-// How a slot ends, where the output has `room` numbers: checks 17, 14, 15 and 17, in this order. Where it runs, `picks` are what
-// the links have picked.
+// How a slot ends, where the output has `room` numbers: checks 17, 14, 15 and 17, in this order. Once the first three are passed,
+// `picks` are what the links have picked.
 pub fn turn(store: &[u64], room: usize, picks: &mut [u64; 16]) -> Turn
     ensures { λ r. ⌜ r ≡ slotTurn (now (store .entry)) room ⌝ }
-    ensures { λ r. ⌜ (r ≡ Ran → now (picks .exit) ≡ picksTo (now (store .entry)) (linksOf (now (store .entry)))) ⌝ }
+    ensures { λ _. ⌜ now (picks .exit) ≡ picksLeft (now (store .entry)) room (now (picks .entry)) ⌝ }
 {
     if !sound::is_sound(store) {
         return Turn::Refused(17, 0);

@@ -5,7 +5,7 @@ use borrow.Author.Needs.{needs}
 use lib.ListN.{length}
 use Rattle.traffic.specs.declared.Turn.the-variants.{Ran}
 use Rattle.traffic.specs.Slot.{slotTurn}
-use Rattle.slot.proofs.Laws.{ran-sound, ran-before-end, ran-room, ends-refused, ends-ran}
+use Rattle.slot.proofs.Laws.{ran-sound, ran-before-end, ran-room, ran-picks, ends-refused, ends-ran}
 use Rattle.slot.proofs.run.Statement.{statement}
 use Rattle.slot.proofs.run.Tie as tie
 
@@ -37,12 +37,12 @@ enum-told c = search needs
 report-requires : tie.Need-report-requires
 report-requires c κs =
     let e = c .before .before .before in
-    (ran-sound _ _ (ran e), (e .before .before .turn .ensures .1 (e .enum-told .given .1), ran-room _ _ (ran e)))
+    (ran-sound _ _ (ran e), (e .before .before .turn .ensures .1 ∙ ran-picks _ _ (ran e) _, ran-room _ _ (ran e)))
 
 move-on-requires : tie.Need-move-on-requires
 move-on-requires c κs =
     let e = c .before .before .before .before .before .before .before .before in
-    (ran-sound _ _ (ran e), (e .before .before .turn .ensures .1 (e .enum-told .given .1), ran-before-end _ _ (ran e)))
+    (ran-sound _ _ (ran e), (e .before .before .turn .ensures .1 ∙ ran-picks _ _ (ran e) _, ran-before-end _ _ (ran e)))
 
 same-length-2 : tie.Need-same-length-2
 same-length-2 c = search needs

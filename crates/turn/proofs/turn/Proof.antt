@@ -10,7 +10,9 @@ use Rattle.room.proofs.Laws.Sound.{sound-is}
 use Rattle.checks.specs.Checks.{Check}
 use Rattle.checks.proofs.Laws.{AllHold, one-more}
 use Rattle.traffic.specs.Slot.{moved, slotChecks}
-use Rattle.turn.proofs.Checks.{at-end, before-end, too-short, long-enough, room-decides, turn-refused, turn-ran, never-ran}
+use Rattle.turn.specs.Left.{picksLeft}
+use Rattle.turn.proofs.Checks.{at-end, before-end, too-short, long-enough, room-decides, turn-refused, turn-ran}
+use Rattle.turn.proofs.Checks.{picks-stay, picks-made}
 use Rattle.turn.proofs.turn.Statement.{statement}
 use Rattle.turn.proofs.turn.Tie as tie
 
@@ -43,19 +45,27 @@ late : (c : tie.After-fits2) → let s = start-15 (c .before .before .before) in
     c .fits2 .result ≡ soundOf (moved (s .args .store .now))
 late c = c .fits2 .ensures ∙ sym (room-decides _ _ (past-15 (c .before .before .before)))
 
+-- and the picks are left in the lent array
+made : (c : tie.After-fits2) → let s = start-15 (c .before .before .before) in
+    c .before .before .picks .result ≡ picksLeft (s .args .store .now) (s .args .room) (s .args .picks .now)
+made c = c .before .before .picks .ensures ∙ sym (picks-made _ _ _ (past-15 (c .before .before .before)))
+
 is-sound-requires : tie.Need-is-sound-requires
 is-sound-requires c κs = search needs
 
 returns : tie.Need-returns
 returns c =
-    (turn-refused _ _ 0 refl tt (refuted (c .before .is-sound .ensures) (c .if1 .taken)), never-ran 17 0)
+    let f = refuted (c .before .is-sound .ensures) (c .if1 .taken) in
+    (turn-refused _ _ 0 refl tt f, picks-stay _ _ _ 0 refl tt f)
 
 clock-requires : tie.Need-clock-requires
 clock-requires c κs = sound-is _ (past-17 c .0) .long
 
 returns-2 : tie.Need-returns-2
 returns-2 c =
-    (turn-refused _ _ 1 refl (past-17 (c .before .before)) (at-end (c .before .clock .ensures) (c .if2 .taken)), never-ran 14 0)
+    let h = past-17 (c .before .before) in
+    let f = at-end (c .before .clock .ensures) (c .if2 .taken) in
+    (turn-refused _ _ 1 refl h f, picks-stay _ _ _ 1 refl h f)
 
 links-requires : tie.Need-links-requires
 links-requires c κs = sound-is _ (past-14 c .0) .long
@@ -65,8 +75,9 @@ mul-if3 c = omega (arith, c .links .ensures, sound-is _ (past-14 (c .before) .0)
 
 returns-3 : tie.Need-returns-3
 returns-3 c =
-    let t = c .before .before in
-    (turn-refused _ _ 2 refl (past-14 t) (too-short (c .before .links .ensures) (c .if3 .taken)), never-ran 15 0)
+    let h = past-14 (c .before .before) in
+    let f = too-short (c .before .links .ensures) (c .if3 .taken) in
+    (turn-refused _ _ 2 refl h f, picks-stay _ _ _ 2 refl h f)
 
 picks-requires : tie.Need-picks-requires
 picks-requires c κs = past-15 c .0
@@ -77,14 +88,15 @@ fits-requires c κs = (past-15 (c .before .before) .0, c .before .picks .ensures
 returns-4 : tie.Need-returns-4
 returns-4 c =
     let f = c .before in
-    (turn-refused _ _ 3 refl (past-15 (f .before .before .before)) (refuted (late f) (c .if4 .taken)), never-ran 17 0)
+    let h = past-15 (f .before .before .before) in
+    (turn-refused _ _ 3 refl h (refuted (late f) (c .if4 .taken)), made f)
 
 returns-5 : tie.Need-returns-5
 returns-5 c =
     let f = c .before in
     let e = f .before .before .before in
     let s = checks (start-15 e) in
-    (sym (turn-ran _ _ (one-more s 3 refl (past-15 e) (held (late f) (c .if4 .left)))), (λ _. f .before .before .picks .ensures))
+    (sym (turn-ran _ _ (one-more s 3 refl (past-15 e) (held (late f) (c .if4 .left)))), made f)
 
 pub turn-spec : {M : Type 1} → statement M
 turn-spec =
