@@ -1,16 +1,20 @@
 -- What is still ahead while the bytes of a line are gathered. Assumes nothing.
-use Prim.Native.Nat.{ℕ, suc, _+_, _≤_, _<_, min}
+use Prim.Native.Nat.{ℕ, suc, _+_, _-_, _≤_, _<_, min}
 use mathlib.Core.Path.{_≡_, refl, sym, _∙_}
 use mathlib.Core.Bool.{Bool, true, false}
-use mathlib.Core.List.{List, [], _∷_, _++_, append-assoc, append-nil}
+use mathlib.Core.List.{List, [], _∷_}
 use native.Mathlib.Numerals.{add-one}
 use native.Mathlib.Omega.{arith}
 use borrow.Author.Tests.{eq-eqb, ne-eqb}
 use lib.Dec.{eqb}
-use lib.ListN.{length, take, drop, set, getD, drop-of-length-le, length-set, length-take}
-use lib.Seq.{drop-cons, take-suc-set, take-append-le, take-all}
+use lib.ListN.{length, drop, set, getD, drop-of-length-le, length-set}
+use lib.Seq.{drop-cons, take-nil}
 use Rattle.decimal.specs.Word.{lineFeed}
+use Rattle.decimal.specs.Put.{putAt}
+use Rattle.decimal.proofs.Laws.Put.{put-none, put-next}
+use Rattle.lines.specs.declared.Gathered.{Gathered}
 use Rattle.lines.specs.Lines.{ahead, feedAhead, feedBytes, mostKept}
+use Rattle.lines.specs.Gathered.{gathered, fitting}
 
 pub ahead-feed : (b : ℕ) (rest : List ℕ) → eqb b lineFeed ≡ true → (ahead (b ∷ rest) ≡ []) × (feedAhead (b ∷ rest) ≡ true)
 unfolding ahead feedAhead
@@ -30,7 +34,7 @@ pub record Rest (chunk : List ℕ) (from : ℕ) (line₀ : List ℕ) (before : �
   pub ends : from + length (ahead (drop from chunk)) ≡ i + length (ahead (drop i chunk))
   pub feed : feedAhead (drop from chunk) ≡ feedAhead (drop i chunk)
   pub many : min mostKept (before + length (ahead (drop from chunk))) ≡ min mostKept (kept + length (ahead (drop i chunk)))
-  pub text : take mostKept (take before line₀ ++ ahead (drop from chunk)) ≡ take mostKept (take kept line ++ ahead (drop i chunk))
+  pub text : putAt line₀ before (fitting before (ahead (drop from chunk))) ≡ putAt line kept (fitting kept (ahead (drop i chunk)))
   pub most : kept ≤ mostKept
   pub within : i ≤ length chunk
   pub wide : length line ≡ mostKept
@@ -41,14 +45,14 @@ rest-none chunk from line before h k l =
     record { ends = refl; feed = refl; many = refl; text = refl; most = h; within = k; wide = l }
 
 -- a byte more is kept; one more where 256 are kept makes no difference
-one-kept : (line : List ℕ) (kept b : ℕ) (rest : List ℕ) → kept < length line
-    → take mostKept (take kept line ++ (b ∷ rest)) ≡ take mostKept (take (kept + 1) (set line kept b) ++ rest)
-one-kept line kept b rest h = rw (add-one kept, take-suc-set line kept b h, append-assoc)
+one-kept : (line : List ℕ) (kept b : ℕ) (rest : List ℕ) → kept < mostKept → length line ≡ mostKept
+    → putAt line kept (fitting kept (b ∷ rest)) ≡ putAt (set line kept b) (kept + 1) (fitting (kept + 1) rest)
+one-kept line kept b rest h w =
+    let e : mostKept - kept ≡ suc (mostKept - (kept + 1)) = omega arith in
+    rw e (put-next line kept b (fitting (kept + 1) rest) (omega (arith, w)))
 
-none-kept : (line : List ℕ) (kept : ℕ) (rest : List ℕ) (w : (mostKept ≤ kept) × (length line ≡ mostKept))
-    → take mostKept (take kept line ++ rest) ≡ take mostKept (take kept line)
-none-kept line kept rest w =
-    take-append-le mostKept (take kept line) rest (simp length-take (omega (arith, w .0, w .1)))
+none-kept : (kept : ℕ) (text : List ℕ) → mostKept ≤ kept → fitting kept text ≡ []
+none-kept kept text h = let e : mostKept - kept ≡ 0 = omega arith in rw e
 
 -- From what is ahead at place i to what is ahead after it.
 module _ {chunk : List ℕ} {from : ℕ} {line₀ : List ℕ} {before : ℕ} {line : List ℕ} {i kept : ℕ}
@@ -72,7 +76,7 @@ module _ {chunk : List ℕ} {from : ℕ} {line₀ : List ℕ} {before : ℕ} {li
       ends = r .ends ∙ rw shorter (omega arith);
       feed = r .feed ∙ next-feed;
       many = r .many ∙ rw shorter (omega arith);
-      text = r .text ∙ rw next (one-kept line kept _ _ (omega (arith, r .wide)));
+      text = r .text ∙ rw next (one-kept line kept _ _ k (r .wide));
       most = omega arith;
       within = omega arith;
       wide = simp length-set (r .wide);
@@ -83,14 +87,14 @@ module _ {chunk : List ℕ} {from : ℕ} {line₀ : List ℕ} {before : ℕ} {li
       ends = r .ends ∙ rw shorter (omega arith);
       feed = r .feed ∙ next-feed;
       many = r .many ∙ rw shorter (omega (arith, r .most));
-      text = r .text ∙ (none-kept line kept _ w ∙ sym (none-kept line kept _ w));
+      text = r .text ∙ rw (full (ahead (drop i chunk)), full (ahead (drop (i + 1) chunk)));
       most = r .most;
       within = omega arith;
       wide = r .wide;
     }
       where
-        w : (mostKept ≤ kept) × (length line ≡ mostKept)
-        w = (omega arith, r .wide)
+        full : (text : List ℕ) → fitting kept text ≡ []
+        full text = none-kept kept text (omega arith)
 
   -- nothing is ahead: all is gathered
   module _ (e : ahead (drop i chunk) ≡ []) where
@@ -103,9 +107,8 @@ module _ {chunk : List ℕ} {from : ℕ} {line₀ : List ℕ} {before : ℕ} {li
     rest-many : kept ≡ min mostKept (before + length (ahead (drop from chunk)))
     rest-many = let m = r .most in sym (r .many ∙ rw none-left (omega arith))
 
-    rest-text : take kept line ≡ take mostKept (take before line₀ ++ ahead (drop from chunk))
-    rest-text =
-        sym (r .text ∙ rw (e, append-nil) (take-all mostKept (take kept line) (simp length-take (omega (arith, r .most)))))
+    rest-text : line ≡ putAt line₀ before (fitting before (ahead (drop from chunk)))
+    rest-text = sym (r .text ∙ rw (e, take-nil) (put-none line kept))
 
   -- what the call then says, at the line feed and at the end of the chunk
   at-feed : i < length chunk → eqb (getD chunk i 0) lineFeed ≡ true
@@ -115,21 +118,15 @@ module _ {chunk : List ℕ} {from : ℕ} {line₀ : List ℕ} {before : ℕ} {li
   at-end : length chunk ≤ i → (ahead (drop i chunk) ≡ []) × (feedAhead (drop i chunk) ≡ false)
   at-end h = rw (drop-of-length-le chunk h) ahead-none
 
-  abbrev pub Gathered : (end : ℕ) (whole : Bool) → Type 0
-  Gathered end whole =
-      (end ≡ from + length (ahead (drop from chunk)) + feedBytes (feedAhead (drop from chunk)))
-      × ((kept ≡ min mostKept (before + length (ahead (drop from chunk))))
-      × ((whole ≡ feedAhead (drop from chunk))
-      × (take kept line ≡ take mostKept (take before line₀ ++ ahead (drop from chunk)))))
+  abbrev pub Ends : Gathered → Type 0
+  Ends g = (g ≡ gathered (drop from chunk) from before) × (line ≡ putAt line₀ before (fitting before (ahead (drop from chunk))))
 
-  pub rest-fed : i < length chunk → getD chunk i 0 ≡ lineFeed → Gathered (i + 1) true
-  rest-fed h q =
-      let e = at-feed h (eq-eqb _ _ q) in
-      let f : feedAhead (drop from chunk) ≡ true = r .feed ∙ e .1 in
-      (rw (f, rest-ends (e .0)), (rest-many (e .0), (sym f, rest-text (e .0))))
+  ends : ahead (drop i chunk) ≡ [] → (end : ℕ) (whole : Bool) → feedAhead (drop from chunk) ≡ whole → end ≡ i + feedBytes whole
+      → Ends (record { at = end; length = kept; whole = whole })
+  ends e end whole f n = (rw (n, f, rest-ends e, rest-many e), rest-text e)
 
-  pub rest-ended : length chunk ≤ i → Gathered i false
-  rest-ended h =
-      let e = at-end h in
-      let f : feedAhead (drop from chunk) ≡ false = r .feed ∙ e .1 in
-      (rw (f, rest-ends (e .0)) (omega arith), (rest-many (e .0), (sym f, rest-text (e .0))))
+  pub rest-fed : i < length chunk → getD chunk i 0 ≡ lineFeed → Ends (record { at = i + 1; length = kept; whole = true })
+  rest-fed h q = let e = at-feed h (eq-eqb _ _ q) in ends (e .0) _ true (r .feed ∙ e .1) refl
+
+  pub rest-ended : length chunk ≤ i → Ends (record { at = i; length = kept; whole = false })
+  rest-ended h = let e = at-end h in ends (e .0) _ false (r .feed ∙ e .1) (omega arith)

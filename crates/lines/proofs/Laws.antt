@@ -1,14 +1,18 @@
 -- The lines of a script, whether it comes at once or in chunks. Assumes nothing.
-use Prim.Native.Nat.{ℕ, suc, _+_, _≤_, _<_}
-use mathlib.Core.Path.{_≡_, refl, sym, _∙_}
+use Prim.Native.Nat.{ℕ, suc, _+_, _-_, _≤_, _<_, min}
+use mathlib.Core.Path.{_≡_, refl, sym, ap, _∙_}
 use mathlib.Core.Bool.{Bool, true, false, false≢true, true≢false}
 use mathlib.Core.List.{[], _∷_, _++_, append-assoc, append-nil}
 use native.Mathlib.Omega.{arith}
 use lib.Dec.{eqb}
-use lib.ListN.{length, drop}
+use lib.ListN.{length, take, drop, length-take}
+use lib.Seq.{length-take-le, take-append-add}
 use Rattle.decimal.specs.Decimal.{Text}
 use Rattle.decimal.specs.Word.{lineFeed}
-use Rattle.lines.specs.Lines.{linesFrom, ahead, feedAhead, feedBytes}
+use Rattle.decimal.specs.Put.{putAt}
+use Rattle.decimal.proofs.Laws.Put.{take-put-end}
+use Rattle.lines.specs.Lines.{linesFrom, ahead, feedAhead, feedBytes, mostKept}
+use Rattle.lines.specs.Gathered.{fitting}
 use Rattle.lines.proofs.Gathering.{ahead-feed, ahead-other, ahead-none}
 
 -- one byte more: a line feed, or another
@@ -96,3 +100,15 @@ ahead-some (b ∷ chunk) h = go (eqb b lineFeed) refl
     go : (t : Bool) → eqb b lineFeed ≡ t → 0 < length (ahead (b ∷ chunk)) + feedBytes (feedAhead (b ∷ chunk))
     go true e = rw (ahead-feed b chunk e .0, ahead-feed b chunk e .1) (omega arith)
     go false e = rw (ahead-other b chunk e .0, ahead-other b chunk e .1) (omega arith)
+
+-- The bytes kept of a line are the first 256 of those that came before and those that are gathered.
+pub gathered-line : (line : Text) (before : ℕ) (text : Text) (n : ℕ) (full : Text) → before ≤ mostKept → length line ≡ mostKept
+    → n ≡ min mostKept (before + length text) → full ≡ putAt line before (fitting before text)
+    → take n full ≡ take mostKept (take before line ++ text)
+gathered-line line before text n full h w i j =
+    let l : length (fitting before text) ≡ min (mostKept - before) (length text) = length-take (mostKept - before) text in
+    let e : n ≡ before + length (fitting before text) = omega (arith, i, l) in
+    let a : length (take before line) ≡ before = length-take-le before line (omega (arith, w)) in
+    let f : mostKept ≡ length (take before line) + (mostKept - before) = omega (arith, a) in
+    rw (e, j, take-put-end line before (fitting before text) (omega (arith, w)))
+    (sym (ap (λ m. take m (take before line ++ text)) f ∙ take-append-add (take before line) text (mostKept - before)))

@@ -1,9 +1,10 @@
 // The lines of a script that comes in chunks.
 ghost use mathlib.Core.Path.{_≡_};
-ghost use mathlib.Core.List.{_++_};
-ghost use Prim.Native.Nat.{_+_, _≤_, min};
-ghost use lib.ListN.{length, take, drop};
-ghost use Rattle.lines.specs.Lines.{ahead, feedAhead, feedBytes, mostKept};
+ghost use Prim.Native.Nat.{_≤_};
+ghost use lib.ListN.{length, drop};
+ghost use Rattle.decimal.specs.Put.{putAt};
+ghost use Rattle.lines.specs.Lines.{ahead, mostKept};
+ghost use Rattle.lines.specs.Gathered.{gathered, fitting};
 
 // Where the chunk goes on, how many bytes of the line are kept, and whether its line feed was there.
 pub struct Gathered {
@@ -20,12 +21,9 @@ pub fn gather(chunk: &[u8], from: usize, line: &mut [u8], before: usize) -> Gath
     requires { ⌜ length (now line) ≡ mostKept ⌝ }
     requires { ⌜ before ≤ mostKept ⌝ }
     requires { ⌜ from ≤ length (now chunk) ⌝ }
-    ensures { λ r. ⌜ r .at
-        ≡ from + length (ahead (drop from (now (chunk .entry)))) + feedBytes (feedAhead (drop from (now (chunk .entry)))) ⌝ }
-    ensures { λ r. ⌜ r .length ≡ min mostKept (before + length (ahead (drop from (now (chunk .entry))))) ⌝ }
-    ensures { λ r. ⌜ r .whole ≡ feedAhead (drop from (now (chunk .entry))) ⌝ }
-    ensures { λ r. ⌜ take (r .length) (now (line .exit))
-        ≡ take mostKept (take before (now (line .entry)) ++ ahead (drop from (now (chunk .entry)))) ⌝ }
+    ensures { λ r. ⌜ r ≡ gathered (drop from (now (chunk .entry))) from before ⌝ }
+    ensures { λ _. ⌜ now (line .exit)
+        ≡ putAt (now (line .entry)) before (fitting before (ahead (drop from (now (chunk .entry))))) ⌝ }
 {
     let mut i = from;
     let mut kept = before;

@@ -1,19 +1,19 @@
 -- The numbers behind the first word, read one by one. Assumes nothing.
-use Prim.Native.Nat.{ℕ, suc, _+_, _*_, _≤_, _<_}
+use Prim.Native.Nat.{ℕ, _+_, _*_, _≤_, _<_}
 use mathlib.Core.Path.{_≡_, refl, sym, ap, _∙_}
 use mathlib.Core.Bool.{Bool, true, false}
-use mathlib.Core.List.{List, [], _∷_, append-assoc}
+use mathlib.Core.List.{List, [], _∷_}
 use native.Mathlib.Numerals.{add-one}
 use native.Mathlib.Omega.{arith}
 use borrow.Author.Tests.{eqb-true}
 use lib.Dec.{eqb}
 use lib.ListN.{length, drop, set, getD, drop-of-length-le, length-drop, length-set}
-use lib.Seq.{drop-cons, drop-drop, take-suc-set, drop-set-lt}
+use lib.Seq.{drop-cons, drop-drop}
 use Rattle.decimal.specs.declared.Number.the-variants.{Value, Nothing}
 use Rattle.decimal.specs.Decimal.{Text, isNumber, valueOf}
 use Rattle.decimal.specs.Put.{putAt}
 use Rattle.decimal.specs.Word.{space, firstWord, wordAt, numberIn}
-use Rattle.decimal.proofs.Laws.Put.{put-none}
+use Rattle.decimal.proofs.Laws.Put.{put-none, put-next}
 use Rattle.script.specs.declared.Count.{Count}
 use Rattle.script.specs.declared.Count.the-variants.{Broken, All}
 use Rattle.script.specs.Line.{longer, words, behind, allNumbers, leading, mostBytes}
@@ -93,12 +93,6 @@ module _ (text : Text) (from : ℕ) where
       go false e =
           let f : numberIn text from ≡ Nothing = rw (e, numberIn) in
           absurd (let z : _≡_ {A = ℕ} 0 1 = cc in omega arith)
-
-put-next : (all : List ℕ) (n x : ℕ) (part : List ℕ) → n < length all → putAt all n (x ∷ part) ≡ putAt (set all n x) (n + 1) part
-unfolding putAt
-put-next all n x part h =
-    let e : suc n + length part ≡ n + suc (length part) = omega arith in
-    rw (add-one n, take-suc-set all n x h, drop-set-lt (suc n + length part) all n x (omega arith), append-assoc, e)
 
 -- i is the end of a word, n of the words behind the first are read, and what is left decides
 pub record Reading (line : Text) (before numbers : List ℕ) (n i : ℕ) : Type 0 where

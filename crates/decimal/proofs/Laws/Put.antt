@@ -8,7 +8,7 @@ use native.Mathlib.Numerals.{add-one}
 use native.Mathlib.Omega.{arith}
 use lib.ListN.{length, take, drop, set, length-append, length-take, length-drop, take-append-drop}
 use lib.Seq.{length-take-le, take-suc, take-append-seam, take-append-le, drop-append-le, set-split}
-use lib.Seq.{set-at, take-at, drop-at, drop-drop, take-add}
+use lib.Seq.{set-at, take-at, drop-at, drop-drop, take-add, take-suc-set, drop-set-lt}
 use Rattle.decimal.specs.Put.{putAt, partOf}
 
 module _ (all : List ℕ) (at : ℕ) where
@@ -26,6 +26,13 @@ module _ (all : List ℕ) (at : ℕ) where
   put-front x part h =
       let e : suc at + length part ≡ at + suc (length part) = omega arith in
       rw (take-suc all at 0 h, append-assoc, e) (set-at (take at all) _ _ x at (length-take-le at all (omega arith)))
+
+  -- the first of what is put, and then the others
+  pub put-next : (x : ℕ) (part : List ℕ) → at < length all → putAt all at (x ∷ part) ≡ putAt (set all at x) (at + 1) part
+  unfolding putAt
+  put-next x part h =
+      let e : suc at + length part ≡ at + suc (length part) = omega arith in
+      rw (add-one at, take-suc-set all at x h, drop-set-lt (suc at + length part) all at x (omega arith), append-assoc, e)
 
   module _ (part : List ℕ) where
     pub length-put : at + length part ≤ length all → length (putAt all at part) ≡ length all
