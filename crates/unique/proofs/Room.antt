@@ -1,0 +1,151 @@
+-- The fields of the store: the contract of each function permits one outcome only. Assumes nothing.
+use mathlib.Core.Path.{refl}
+use Rattle.room.proofs.channel as channel
+use Rattle.room.proofs.head as head
+use Rattle.room.proofs.link as link
+use Rattle.unique.specs.Unique.{Unique}
+use Rattle.unique.proofs.Same.{same}
+
+pub channel-clear : Unique channel.clear.ended channel.clear.Reads.Post
+channel-clear κs a x y = (refl, λ i. (same (x .meets) (y .meets) i, x .last .1))
+
+pub channel-c : Unique channel.c.ended channel.c.Reads.Post
+channel-c κs a x y = (same (x .meets) (y .meets), refl)
+
+pub channel-put-c : Unique channel.put_c.ended channel.put_c.Reads.Post
+channel-put-c κs a x y = (refl, λ i. (same (x .meets) (y .meets) i, x .last .1))
+
+pub channel-p : Unique channel.p.ended channel.p.Reads.Post
+channel-p κs a x y = (same (x .meets) (y .meets), refl)
+
+pub channel-put-p : Unique channel.put_p.ended channel.put_p.Reads.Post
+channel-put-p κs a x y = (refl, λ i. (same (x .meets) (y .meets) i, x .last .1))
+
+pub channel-d : Unique channel.d.ended channel.d.Reads.Post
+channel-d κs a x y = (same (x .meets) (y .meets), refl)
+
+pub channel-put-d : Unique channel.put_d.ended channel.put_d.Reads.Post
+channel-put-d κs a x y = (refl, λ i. (same (x .meets) (y .meets) i, x .last .1))
+
+pub channel-b : Unique channel.b.ended channel.b.Reads.Post
+channel-b κs a x y = (same (x .meets) (y .meets), refl)
+
+pub channel-put-b : Unique channel.put_b.ended channel.put_b.Reads.Post
+channel-put-b κs a x y = (refl, λ i. (same (x .meets) (y .meets) i, x .last .1))
+
+pub channel-hops : Unique channel.hops.ended channel.hops.Reads.Post
+channel-hops κs a x y = (same (x .meets) (y .meets), refl)
+
+pub channel-put-hops : Unique channel.put_hops.ended channel.put_hops.Reads.Post
+channel-put-hops κs a x y = (refl, λ i. (same (x .meets) (y .meets) i, x .last .1))
+
+pub channel-messages : Unique channel.messages.ended channel.messages.Reads.Post
+channel-messages κs a x y = (same (x .meets) (y .meets), refl)
+
+pub channel-put-messages : Unique channel.put_messages.ended channel.put_messages.Reads.Post
+channel-put-messages κs a x y = (refl, λ i. (same (x .meets) (y .meets) i, x .last .1))
+
+pub channel-route-start : Unique channel.route_start.ended channel.route_start.Reads.Post
+channel-route-start κs a x y = (same (x .meets) (y .meets), refl)
+
+pub channel-route : Unique channel.route.ended channel.route.Reads.Post
+channel-route κs a x y = (same (x .meets) (y .meets), refl)
+
+pub channel-put-route : Unique channel.put_route.ended channel.put_route.Reads.Post
+channel-put-route κs a x y = (refl, λ i. (same (x .meets) (y .meets) i, x .last .1))
+
+pub channel-delay : Unique channel.delay.ended channel.delay.Reads.Post
+channel-delay κs a x y = (same (x .meets) (y .meets), refl)
+
+pub channel-put-delay : Unique channel.put_delay.ended channel.put_delay.Reads.Post
+channel-put-delay κs a x y = (refl, λ i. (same (x .meets) (y .meets) i, x .last .1))
+
+pub channel-sent : Unique channel.sent.ended channel.sent.Reads.Post
+channel-sent κs a x y = (same (x .meets) (y .meets), refl)
+
+pub channel-put-sent : Unique channel.put_sent.ended channel.put_sent.Reads.Post
+channel-put-sent κs a x y = (refl, λ i. (same (x .meets) (y .meets) i, x .last .1))
+
+pub channel-time : Unique channel.time.ended channel.time.Reads.Post
+channel-time κs a x y = (same (x .meets) (y .meets), refl)
+
+pub channel-put-time : Unique channel.put_time.ended channel.put_time.Reads.Post
+channel-put-time κs a x y = (refl, λ i. (same (x .meets) (y .meets) i, x .last .1))
+
+pub channel-end : Unique channel.end.ended channel.end.Reads.Post
+channel-end κs a x y = (same (x .meets) (y .meets), refl)
+
+pub channel-put-end : Unique channel.put_end.ended channel.put_end.Reads.Post
+channel-put-end κs a x y = (refl, λ i. (same (x .meets) (y .meets) i, x .last .1))
+
+pub channel-ring-place : Unique channel.ring_place.ended channel.ring_place.Reads.Post
+channel-ring-place κs a x y = (same (x .meets) (y .meets), refl)
+
+pub channel-place-before : Unique channel.place_before.ended channel.place_before.Reads.Post
+channel-place-before κs a x y = (same (x .meets .0) (y .meets .0), refl)
+
+pub channel-time-in : Unique channel.time_in.ended channel.time_in.Reads.Post
+channel-time-in κs a x y = (same (x .meets) (y .meets), refl)
+
+pub channel-end-in : Unique channel.end_in.ended channel.end_in.Reads.Post
+channel-end-in κs a x y = (same (x .meets) (y .meets), refl)
+
+pub head-links : Unique head.links.ended head.links.Reads.Post
+head-links κs a x y = (same (x .meets) (y .meets), refl)
+
+pub head-put-links : Unique head.put_links.ended head.put_links.Reads.Post
+head-put-links κs a x y = (refl, λ i. (same (x .meets) (y .meets) i, x .last .1))
+
+pub head-channels : Unique head.channels.ended head.channels.Reads.Post
+head-channels κs a x y = (same (x .meets) (y .meets), refl)
+
+pub head-put-channels : Unique head.put_channels.ended head.put_channels.Reads.Post
+head-put-channels κs a x y = (refl, λ i. (same (x .meets) (y .meets) i, x .last .1))
+
+pub head-clock : Unique head.clock.ended head.clock.Reads.Post
+head-clock κs a x y = (same (x .meets) (y .meets), refl)
+
+pub head-put-clock : Unique head.put_clock.ended head.put_clock.Reads.Post
+head-put-clock κs a x y = (refl, λ i. (same (x .meets) (y .meets) i, x .last .1))
+
+pub link-from : Unique link.from.ended link.from.Reads.Post
+link-from κs a x y = (same (x .meets) (y .meets), refl)
+
+pub link-put-from : Unique link.put_from.ended link.put_from.Reads.Post
+link-put-from κs a x y = (refl, λ i. (same (x .meets) (y .meets) i, x .last .1))
+
+pub link-to : Unique link.to.ended link.to.Reads.Post
+link-to κs a x y = (same (x .meets) (y .meets), refl)
+
+pub link-put-to : Unique link.put_to.ended link.put_to.Reads.Post
+link-put-to κs a x y = (refl, λ i. (same (x .meets) (y .meets) i, x .last .1))
+
+pub link-horizon : Unique link.horizon.ended link.horizon.Reads.Post
+link-horizon κs a x y = (same (x .meets) (y .meets), refl)
+
+pub link-put-horizon : Unique link.put_horizon.ended link.put_horizon.Reads.Post
+link-put-horizon κs a x y = (refl, λ i. (same (x .meets) (y .meets) i, x .last .1))
+
+pub link-buffer : Unique link.buffer.ended link.buffer.Reads.Post
+link-buffer κs a x y = (same (x .meets) (y .meets), refl)
+
+pub link-put-buffer : Unique link.put_buffer.ended link.put_buffer.Reads.Post
+link-put-buffer κs a x y = (refl, λ i. (same (x .meets) (y .meets) i, x .last .1))
+
+pub link-rows : Unique link.rows.ended link.rows.Reads.Post
+link-rows κs a x y = (same (x .meets) (y .meets), refl)
+
+pub link-put-rows : Unique link.put_rows.ended link.put_rows.Reads.Post
+link-put-rows κs a x y = (refl, λ i. (same (x .meets) (y .meets) i, x .last .1))
+
+pub link-row-channel : Unique link.row_channel.ended link.row_channel.Reads.Post
+link-row-channel κs a x y = (same (x .meets) (y .meets), refl)
+
+pub link-put-row-channel : Unique link.put_row_channel.ended link.put_row_channel.Reads.Post
+link-put-row-channel κs a x y = (refl, λ i. (same (x .meets) (y .meets) i, x .last .1))
+
+pub link-row-place : Unique link.row_place.ended link.row_place.Reads.Post
+link-row-place κs a x y = (same (x .meets) (y .meets), refl)
+
+pub link-put-row-place : Unique link.put_row_place.ended link.put_row_place.Reads.Post
+link-put-row-place κs a x y = (refl, λ i. (same (x .meets) (y .meets) i, x .last .1))
