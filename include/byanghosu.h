@@ -11,7 +11,8 @@
  *   row is answered, as each call says below; one that is larger than what is really there cannot be seen, and the call may
  *   then read or write beyond it.
  * - The store. It is C's memory, and nothing in it is a pointer: it may be copied, saved and put back. Between calls C may read
- *   it and writes nothing to it. A change that leaves it unsound is answered with 17; any other is taken for true.
+ *   it and writes nothing to it. A change that leaves it unsound is answered with 17; any other is taken for true. In a store
+ *   that only these calls have written since its set-up, no open, offer or slot gives 17.
  * - Threads. One call at a time for each store and buffer, and nobody else touches it until that call returns. The library has
  *   no memory of its own, so calls that are lent other stores and buffers may run at the same time.
  * - The stack. A call needs at most BYANGHOSU_STACK bytes, among them up to 128 below the stack pointer, as x86-64 allows. It
