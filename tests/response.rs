@@ -1,6 +1,6 @@
 // Document 01, "Response time", once more and on its own: nothing here is taken from the Rattle sources.
 //
-//   response worked FILE        every line of FILE (crates/worked/stdout) has the answer worked out here
+//   response worked FILE        every line of FILE (crates/vectors_response/stdout) has the answer worked out here
 //   response random COMMAND..   the library, behind COMMAND (tests/driver.c), answers some 40,000 random questions so
 //
 // The response is found by the sentence that defines it: the least r, from 1 to the limit, whose need is at most r, tried

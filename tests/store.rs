@@ -1,6 +1,6 @@
 // Set-up and sound stores: the library against tests/room.rs.
 //
-//   store damaged FILE       what crates/damaged printed, worked out again
+//   store damaged FILE       what crates/vectors_damage printed, worked out again
 //   store random COMMAND..   the library, behind COMMAND (tests/driver.c), says of over 100,000 stores whether they are
 //                            sound, and sets up some 3,000 networks, as tests/room.rs does
 //

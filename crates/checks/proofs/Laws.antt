@@ -1,4 +1,4 @@
--- A list of checks: the first that fails answers, whatever comes after it. Assumes nothing.
+-- A list of checks: the first that fails answers, whatever comes after it.
 use Prim.Native.Nat.{ℕ, zero, suc}
 use mathlib.Core.Path.{_≡_, refl, sym, _∙_}
 use mathlib.Core.Bool.{Bool, true, false, _||_}

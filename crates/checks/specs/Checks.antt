@@ -3,7 +3,7 @@
 use Prim.Native.Nat.{ℕ}
 use mathlib.Core.Bool.{Bool, true, false}
 use mathlib.Core.List.{List, [], _∷_}
-use Rattle.room.specs.Folds.{every, firstNot}
+use Rattle.folds.specs.Folds.{every, firstNot}
 
 -- one check: whether it holds, and the number and the place of the refusal where it does not
 pub record Check : Type 0 where

@@ -1,1 +1,1 @@
-// Definitions and laws alone: the checks of a call, of which the first that fails answers.
+// No code: the checks of a call as a list, of which the first that fails answers. The definitions are in specs/, the laws in proofs/.

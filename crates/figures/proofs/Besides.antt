@@ -1,18 +1,18 @@
--- Wherever an open or an offer does not give 17, its answer is the one that the table's figures are read from. Assumes nothing.
+-- Wherever an open or an offer does not give 17, its answer is the one that the table's figures are read from.
 use Prim.Native.Nat.{ℕ}
 use mathlib.Core.Path.{_≡_, refl, ap}
 use mathlib.Core.Bool.{Bool, true, false}
 use mathlib.Core.List.{List, [], _∷_, _++_}
 use lib.Dec.{eqb}
 use borrow.Author.Tests.{eqb-true}
-use Rattle.room.specs.Layout.{Store, channelsOf, messagesOf}
+use Rattle.store.specs.Layout.{Store, channelsOf, messagesOf}
 use Rattle.checks.specs.Checks.{Check, firstFailed}
-use Rattle.opening.specs.declared.Outcome.the-variants.{Accepted as Opened, Refused as Unopened}
-use Rattle.opening.specs.Request.{Request}
-use Rattle.opening.specs.Refusal.{earlyChecks, lateChecks}
-use Rattle.opening.specs.Open.{openOutcome, openAnswer, answerOn, valuesOf as valuesOpening}
-use Rattle.traffic.specs.declared.Offered.the-variants.{Accepted, Refused}
-use Rattle.traffic.specs.Offer.{offerTime, offerChecks, offerAnswer, valuesOf as valuesOffered}
+use Rattle.open_rules.specs.declared.Outcome.the-variants.{Accepted as Opened, Refused as Unopened}
+use Rattle.open_rules.specs.Request.{Request}
+use Rattle.open_rules.specs.Refusal.{earlyChecks, lateChecks}
+use Rattle.open_rules.specs.Open.{openOutcome, openAnswer, answerOn, valuesOf as valuesOpening}
+use Rattle.offer_rules.specs.declared.Offered.the-variants.{Accepted, Refused}
+use Rattle.offer_rules.specs.Offer.{offerTime, offerChecks, offerAnswer, valuesOf as valuesOffered}
 use Rattle.figures.specs.Asked.Lent.{lent}
 use Rattle.figures.specs.Asked.{besides17, outcome, opening, heard, offering}
 

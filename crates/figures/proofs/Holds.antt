@@ -1,18 +1,18 @@
--- Document 01's figures hold. Computed from the definitions. Assumes nothing.
+-- Document 01's figures hold. Computed from the definitions.
 use mathlib.Core.Path.{refl}
 use Rattle.response.specs.Need.{ceil, work, need, packets, start}
 use Rattle.response.specs.Numbers.{rowsOf, rowsInRange}
 use Rattle.response.specs.Trials.{lengthAfter, tried, response}
 use Rattle.response.specs.Alone.{aloneOn, alone as aloneBelow}
-use Rattle.room.specs.Folds.{every, firstNot, sumTo}
-use Rattle.room.specs.Route.{joins}
-use Rattle.room.specs.Amounts.{reservedOf}
-use Rattle.fresh.specs.Fresh.{linkWritten, linksWritten}
+use Rattle.folds.specs.Folds.{every, firstNot, sumTo}
+use Rattle.store.specs.Route.{joins}
+use Rattle.store.specs.Amounts.{reservedOf}
+use Rattle.setup_fresh.specs.Fresh.{linkWritten, linksWritten}
 use Rattle.checks.specs.Checks.{firstFailed}
-use Rattle.opening.specs.Search.{rowsTo, smallest}
-use Rattle.opening.specs.Shares.{reserved, eight}
-use Rattle.opening.specs.Join.{placesWritten}
-use Rattle.traffic.specs.Offer.{offered}
+use Rattle.open_rules.specs.Search.{rowsTo, smallest}
+use Rattle.open_rules.specs.Shares.{reserved, eight}
+use Rattle.open_rules.specs.Join.{placesWritten}
+use Rattle.offer_rules.specs.Offer.{offered}
 use Rattle.figures.specs.Asked.{network, rowsWritten, withTable, afterOffer, atSlot}
 use Rattle.figures.specs.Asked.{alone, besides17, place, opening, offering}
 use Rattle.figures.specs.Table.{Hold, figures}

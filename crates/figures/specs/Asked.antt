@@ -9,20 +9,20 @@ use lib.ListN.{replicate}
 use Rattle.response.specs.declared.Row.{Row}
 use Rattle.response.specs.Numbers.{rowsOf}
 use Rattle.response.specs.Alone.{aloneOn, valuesOf as valuesAlone, Values as Alone}
-use Rattle.room.specs.Layout.{Store, storeLength, channelsOf, messagesOf, withLinks, withChannels, withClock, withRows}
-use Rattle.list.specs.List.{linksIn}
-use Rattle.fresh.specs.Fresh.{linksWritten}
+use Rattle.store.specs.Layout.{Store, storeLength, channelsOf, messagesOf, withLinks, withChannels, withClock, withRows}
+use Rattle.setup_list.specs.List.{linksIn}
+use Rattle.setup_fresh.specs.Fresh.{linksWritten}
 use Rattle.checks.specs.Checks.{Check, firstFailed}
-use Rattle.opening.specs.declared.Outcome.{Outcome}
-use Rattle.opening.specs.declared.Outcome.the-variants.{Accepted as Opened, Refused as Unopened}
-use Rattle.opening.specs.Request.{Request}
-use Rattle.opening.specs.Search.{position}
-use Rattle.opening.specs.Join.{numbersWritten, placesWritten, withRow}
-use Rattle.opening.specs.Refusal.{earlyChecks, lateChecks}
-use Rattle.opening.specs.Open.{answerOn, valuesOf as valuesOpening, Values as Opening}
-use Rattle.traffic.specs.declared.Offered.{Offered}
-use Rattle.traffic.specs.declared.Offered.the-variants.{Accepted, Refused}
-use Rattle.traffic.specs.Offer.{offerTime, offerChecks, offered, valuesOf as valuesOffered, Values as Offering}
+use Rattle.open_rules.specs.declared.Outcome.{Outcome}
+use Rattle.open_rules.specs.declared.Outcome.the-variants.{Accepted as Opened, Refused as Unopened}
+use Rattle.open_rules.specs.Request.{Request}
+use Rattle.open_rules.specs.Search.{position}
+use Rattle.open_rules.specs.Join.{numbersWritten, placesWritten, withRow}
+use Rattle.open_rules.specs.Refusal.{earlyChecks, lateChecks}
+use Rattle.open_rules.specs.Open.{answerOn, valuesOf as valuesOpening, Values as Opening}
+use Rattle.offer_rules.specs.declared.Offered.{Offered}
+use Rattle.offer_rules.specs.declared.Offered.the-variants.{Accepted, Refused}
+use Rattle.offer_rules.specs.Offer.{offerTime, offerChecks, offered, valuesOf as valuesOffered, Values as Offering}
 
 -- a store, worked out once for all that is read from it
 pub data Lent : Type 0 where

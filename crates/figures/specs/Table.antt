@@ -6,8 +6,8 @@ use lib.ListN.{take, drop}
 use Rattle.response.specs.Need.{need, start}
 use Rattle.response.specs.Numbers.{rowsOf}
 use Rattle.response.specs.Trials.{lengthAfter}
-use Rattle.opening.specs.Request.{Request}
-use Rattle.opening.specs.Open.{Values as Opening}
+use Rattle.open_rules.specs.Request.{Request}
+use Rattle.open_rules.specs.Open.{Values as Opening}
 use Rattle.figures.specs.Asked.{Lent, network, asked, withTable, afterOffer, atSlot, alone, place, opening, offering}
 
 -- a figure: what the definitions give, and the numbers that document 01 has

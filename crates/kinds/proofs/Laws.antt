@@ -1,4 +1,4 @@
--- Ranges and checks as tests and as bounds, and what a constructor answers. Assumes nothing.
+-- Ranges and checks as tests and as bounds, and what a constructor answers.
 use Prim.Native.Nat.{ℕ, _≤_}
 use mathlib.Core.Path.{_≡_, refl, sym, _∙_}
 use mathlib.Core.Bool.{Bool, true, false, _&&_, not, and-eq-true-iff}

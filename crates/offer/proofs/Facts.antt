@@ -1,4 +1,4 @@
--- What a sound store gives to code that works with channel c: what may be read, and bounds that no sum passes. Assumes nothing.
+-- What a sound store gives to code that works with channel c: what may be read, and bounds that no sum passes.
 use Prim.Native.Nat.{ℕ, _+_, _-_, _*_, _≤_, _<_}
 use mathlib.Core.Path.{_≡_}
 use mathlib.Core.Bool.{true}
@@ -7,12 +7,12 @@ use native.Mathlib.Omega.{arith}
 use mir.Syntax.{w64}
 use mir.Val.{Fits}
 use Rattle.kinds.specs.Ranges.{mostChannels, mostC, mostP, mostB, mostNumber}
-use Rattle.room.specs.Layout.{Store, Long, channelsOf, cOf, pOf, messagesOf, timeOf, endOf}
-use Rattle.room.specs.Amounts.{acceptedOf, heldOf}
-use Rattle.room.specs.Ranged.{Ranged}
-use Rattle.room.specs.Sound.{soundOf}
-use Rattle.room.proofs.Laws.Sound.{ChannelIs, sound-is, sound-fit, fit-ranged}
-use Rattle.traffic.proofs.Laws.Head.{entered-most}
+use Rattle.store.specs.Layout.{Store, Long, channelsOf, cOf, pOf, messagesOf, timeOf, endOf}
+use Rattle.store.specs.Amounts.{acceptedOf, heldOf}
+use Rattle.store.specs.Ranged.{Ranged}
+use Rattle.store.specs.Sound.{soundOf}
+use Rattle.store.proofs.Laws.Sound.{ChannelIs, sound-is, sound-fit, fit-ranged}
+use Rattle.slot_rules.proofs.Laws.Head.{entered-most}
 
 module _ (w : Store) (c : ℕ) (sound : soundOf w ≡ true) (h : c < channelsOf w) where
   pub long : Long w

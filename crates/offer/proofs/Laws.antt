@@ -1,15 +1,15 @@
--- What the answer to an offer says, for the crates above. Assumes nothing.
+-- What the answer to an offer says, for the crates above.
 use Prim.Native.Nat.{ℕ}
 use mathlib.Core.Path.{_≡_, refl}
 use mathlib.Core.Bool.{true}
 use mathlib.Core.Logic.{_⊎_, inl, inr}
 use native.Mathlib.Omega.{arith}
 use lib.ListN.{take, drop}
-use Rattle.room.specs.Layout.{Store, messagesOf}
-use Rattle.room.specs.Sound.{soundOf}
+use Rattle.store.specs.Layout.{Store, messagesOf}
+use Rattle.store.specs.Sound.{soundOf}
 use Rattle.checks.proofs.Laws.{AllHold, accepted-all, refused-one, hold-append}
-use Rattle.traffic.specs.declared.Offered.the-variants.{Accepted, Refused}
-use Rattle.traffic.specs.Offer.{offerTime, offered, offerChecks, offerAnswer, offerStore}
+use Rattle.offer_rules.specs.declared.Offered.the-variants.{Accepted, Refused}
+use Rattle.offer_rules.specs.Offer.{offerTime, offered, offerChecks, offerAnswer, offerStore}
 use Rattle.offer.proofs.Outcome.{Passed, passed-is, answer-accepted, store-refused, store-accepted}
 
 -- "offer 17, 14, 11, 12, 13"; "where none is named it is 0"

@@ -1,4 +1,4 @@
--- From the checks to the answer and the store after it. Assumes nothing.
+-- From the checks to the answer and the store after it.
 use Prim.Native.Nat.{ℕ, _≤_, _<_}
 use mathlib.Core.Path.{_≡_}
 use mathlib.Core.Bool.{true, false}
@@ -7,14 +7,14 @@ use lib.ListN.{take, drop}
 use borrow.Author.Tests.{ltb-true}
 use Rattle.kinds.specs.Ranges.{endSlot}
 use Rattle.kinds.proofs.Laws.{within-true}
-use Rattle.room.specs.Layout.{Store, channelsOf, clockOf, cOf, messagesOf}
-use Rattle.room.specs.Sound.{soundOf}
+use Rattle.store.specs.Layout.{Store, channelsOf, clockOf, cOf, messagesOf}
+use Rattle.store.specs.Sound.{soundOf}
 use Rattle.checks.specs.Checks.{Check}
 use Rattle.checks.proofs.Laws.{AllHold, all-passed, fails-after}
-use Rattle.traffic.specs.declared.Offered.the-variants.{Accepted, Refused}
-use Rattle.traffic.specs.Offer.{offerTime, inBurst, offered, offerChecks, offerAnswer, offerStore}
-use Rattle.accepted.specs.Room.{hasRoom}
-use Rattle.accepted.proofs.Sound.{offered-sound}
+use Rattle.offer_rules.specs.declared.Offered.the-variants.{Accepted, Refused}
+use Rattle.offer_rules.specs.Offer.{offerTime, inBurst, offered, offerChecks, offerAnswer, offerStore}
+use Rattle.offer_keeps.specs.Room.{hasRoom}
+use Rattle.offer_keeps.proofs.Sound.{offered-sound}
 
 -- What the checks before the last one say.
 pub record Passed (w : Store) (c packets : ℕ) : Type 0 where

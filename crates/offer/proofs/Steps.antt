@@ -1,4 +1,4 @@
--- The rule of an offer, on the numbers as the code reads them. Assumes nothing.
+-- The rule of an offer, on the numbers as the code reads them.
 use Prim.Native.Nat.{ℕ, zero, suc, _+_, _-_, _*_, _≤_, _<_, max}
 use mathlib.Core.Path.{_≡_, refl, sym, _∙_}
 use mathlib.Core.Bool.{Bool, true, false, not}
@@ -7,11 +7,11 @@ use lib.Dec.{leb, ltb}
 use borrow.Author.Tests.{le-leb, lt-leb, lt-ltb, le-ltb}
 use Rattle.kinds.specs.Ranges.{within, isNumber}
 use Rattle.kinds.proofs.Laws.{fails, passes}
-use Rattle.room.specs.Layout.{Store, ring, clockOf, cOf, pOf, bOf, messagesOf, timeOf, endOf, withMessages, withTime, withEnd}
-use Rattle.room.specs.Amounts.{reservedOf, heldOf}
-use Rattle.room.specs.Sound.{inOrder}
-use Rattle.traffic.specs.Offer.{timeAfter, offerTime, inBurst, offered}
-use Rattle.accepted.specs.Room.{hasRoom}
+use Rattle.store.specs.Layout.{Store, ring, clockOf, cOf, pOf, bOf, messagesOf, timeOf, endOf, withMessages, withTime, withEnd}
+use Rattle.store.specs.Amounts.{reservedOf, heldOf}
+use Rattle.store.specs.Sound.{inOrder}
+use Rattle.offer_rules.specs.Offer.{timeAfter, offerTime, inBurst, offered}
+use Rattle.offer_keeps.specs.Room.{hasRoom}
 
 module _ (w : Store) (c : ℕ) where
   -- "for the first it is the present slot"

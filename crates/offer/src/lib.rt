@@ -1,17 +1,17 @@
 // Offering a message: document 01, "Offering". First the answer is worked out, and nothing is written; then, if it is yes, the
 // message is.
 use kinds::Slot;
-use room::channel;
-use room::head;
-use traffic::Offered;
+use offer_rules::Offered;
+use store::channel;
+use store::head;
 ghost use mathlib.Core.Path.{_≡_};
 ghost use mathlib.Core.Bool.{true};
 ghost use Prim.Native.Nat.{_≤_, _<_};
 ghost use Rattle.kinds.specs.Ranges.{within};
-ghost use Rattle.room.specs.Layout.{channelsOf, cOf, messagesOf};
-ghost use Rattle.room.specs.Sound.{soundOf};
-ghost use Rattle.traffic.specs.Offer.{offerTime, inBurst, offered, offerAnswer, offerStore};
-ghost use Rattle.accepted.specs.Room.{hasRoom};
+ghost use Rattle.store.specs.Layout.{channelsOf, cOf, messagesOf};
+ghost use Rattle.store.specs.Sound.{soundOf};
+ghost use Rattle.offer_rules.specs.Offer.{offerTime, inBurst, offered, offerAnswer, offerStore};
+ghost use Rattle.offer_keeps.specs.Room.{hasRoom};
 
 // 12: whether a message has 1 to C packets.
 fn is_message(store: &[u64], c: usize, packets: u64) -> bool
@@ -59,10 +59,10 @@ fn has_room(store: &[u64], c: usize, packets: u64) -> bool
     if !Slot::is_number(n + 1) {
         return false;
     }
-    if !messages::in_order(store, c, n, room::UNDELIVERED - 1) {
+    if !sound_messages::in_order(store, c, n, store::UNDELIVERED - 1) {
         return false;
     }
-    route::held(store, c, 0) + packets <= route::reserved(store, c, 0)
+    store_route::held(store, c, 0) + packets <= store_route::reserved(store, c, 0)
 }
 
 // The answer to an offer. Nothing is written.

@@ -1,15 +1,15 @@
--- What was sent was sent in time, and every accepted message arrives. Assumes nothing.
+-- What was sent was sent in time, and every accepted message arrives.
 use Prim.Native.Nat.{ℕ, suc, _-_, _<_}
 use mathlib.Core.Path.{_≡_, _∙_, sym, subst}
 use mathlib.Core.List.{List, _∷_, List·Memᴰ·head, List·Memᴰ·tail}
 use native.Mathlib.Omega.{arith}
 use Rattle.schedule.specs.Lists.{Every, _∈_}
-use Rattle.room.specs.Layout.{Store, hopsOf, routeOf}
-use Rattle.queue.specs.Queue.{endAfter}
-use Rattle.queue.specs.Keep.{keep}
-use Rattle.traffic.specs.Slot.{Send}
-use Rattle.sends.proofs.Arrived.{sent-early, arrived}
-use Rattle.sends.specs.Sends.{isMessage}
+use Rattle.store.specs.Layout.{Store, hopsOf, routeOf}
+use Rattle.promise_queue.specs.Queue.{endAfter}
+use Rattle.promise_queue.specs.Keep.{keep}
+use Rattle.slot_rules.specs.Slot.{Send}
+use Rattle.promise_sends.proofs.Arrived.{sent-early, arrived}
+use Rattle.promise_sends.specs.Sends.{isMessage}
 use Rattle.promise.specs.Promise.{Event, sendsOn, deadlineAt, Arrives}
 use Rattle.promise.specs.Promise.Event.{accepted}
 use Rattle.promise.proofs.History.{messagesIn}

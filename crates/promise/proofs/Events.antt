@@ -1,16 +1,16 @@
 -- What has happened stays so: a store that has the numbers of every channel, and perhaps more messages, says the same of each
--- event. Assumes nothing.
+-- event.
 use Prim.Native.Nat.{ℕ, suc, _<_}
 use mathlib.Core.Path.{_∙_}
 use mathlib.Core.List.{List, [], _∷_}
 use native.Mathlib.Omega.{arith}
 use Rattle.schedule.specs.Lists.{Every}
-use Rattle.room.specs.Layout.{Store, channelsOf}
-use Rattle.alike.proofs.Numbers.{SameNumbers}
-use Rattle.opening.specs.declared.Opening.{Opening}
-use Rattle.opening.specs.Request.{Request}
-use Rattle.queue.proofs.More.{Longer}
-use Rattle.view.specs.View.{Accepted}
+use Rattle.store.specs.Layout.{Store, channelsOf}
+use Rattle.store_same.proofs.Numbers.{SameNumbers}
+use Rattle.open_rules.specs.declared.Opening.{Opening}
+use Rattle.open_rules.specs.Request.{Request}
+use Rattle.promise_queue.proofs.More.{Longer}
+use Rattle.promise_view.specs.View.{Accepted}
 use Rattle.promise.specs.Promise.{Event, AsOpened}
 use Rattle.promise.specs.Promise.Event.{opened, accepted, sent}
 use Rattle.promise.proofs.Invariant.{IsMessage, EventIs}

@@ -1,5 +1,5 @@
 -- What has happened, when more happens: a channel's messages as crate `schedule` has them, its packets, the logical times, the
--- sends. Assumes nothing.
+-- sends.
 use Prim.Native.Nat.{ℕ, zero, suc, _+_, max}
 use mathlib.Core.Path.{_≡_, refl, _∙_, sym}
 use mathlib.Core.Bool.{Bool, true, false}
@@ -9,8 +9,8 @@ use lib.Dec.{eqb}
 use lib.ListN.{length}
 use borrow.Author.Tests.{eq-eqb, ne-eqb}
 use Rattle.schedule.specs.Messages.{Message, ended}
-use Rattle.traffic.specs.Slot.{Send}
-use Rattle.queue.specs.Queue.{timeAt}
+use Rattle.slot_rules.specs.Slot.{Send}
+use Rattle.promise_queue.specs.Queue.{timeAt}
 use Rattle.promise.specs.Promise.{Event, packetsOf, packetsIn, timesIn, sendsIn, ownTime}
 use Rattle.promise.specs.Promise.Event.{opened, accepted, sent}
 

@@ -1,4 +1,4 @@
--- The statements that hold of one store, each from the invariant. Assumes nothing.
+-- The statements that hold of one store, each from the invariant.
 use Prim.Native.Nat.{ℕ, _-_, _≤_, _<_, min}
 use mathlib.Core.Path.{_≡_, ap, _∙_, sym}
 use mathlib.Core.List.{List}
@@ -6,17 +6,17 @@ use native.Mathlib.Omega.{arith}
 use lib.ListN.{length, getD, take, length-map, length-take, length-drop}
 use Rattle.schedule.specs.Lists.{Every}
 use Rattle.schedule.specs.Messages.{Message, Orderly, ended}
-use Rattle.room.specs.Layout.{Store, channelsOf, clockOf, cOf, pOf, hopsOf, routeOf, sentOf}
-use Rattle.room.specs.Amounts.{enteredOf, heldOf}
-use Rattle.room.proofs.Laws.Folds.{sum-same}
-use Rattle.room.proofs.Laws.Sound.{ChannelIs, held-most}
-use Rattle.traffic.proofs.Laws.Head.{entered-most}
-use Rattle.moved.proofs.Conserved.{conserved as store-conserved}
-use Rattle.queue.specs.Queue.{timeAt, passed, packetsFrom}
-use Rattle.queue.proofs.Packets.{packets-length}
-use Rattle.view.proofs.Counted.{accepted-count, sent-most}
-use Rattle.view.proofs.InTime.{before-due}
-use Rattle.sends.specs.Sends.{nameOf as nameSent}
+use Rattle.store.specs.Layout.{Store, channelsOf, clockOf, cOf, pOf, hopsOf, routeOf, sentOf}
+use Rattle.store.specs.Amounts.{enteredOf, heldOf}
+use Rattle.folds.proofs.Folds.{sum-same}
+use Rattle.store.proofs.Laws.Sound.{ChannelIs, held-most}
+use Rattle.slot_rules.proofs.Laws.Head.{entered-most}
+use Rattle.slot_keeps.proofs.Conserved.{conserved as store-conserved}
+use Rattle.promise_queue.specs.Queue.{timeAt, passed, packetsFrom}
+use Rattle.promise_queue.proofs.Packets.{packets-length}
+use Rattle.promise_view.proofs.Counted.{accepted-count, sent-most}
+use Rattle.promise_view.proofs.InTime.{before-due}
+use Rattle.promise_sends.specs.Sends.{nameOf as nameSent}
 use Rattle.promise.specs.Promise.{Event, Packet, packetsIn, sendsOn, heldAt, deadlineAt}
 use Rattle.promise.specs.Promise.{NeverOver, InOrder, Conserved}
 use Rattle.promise.proofs.History.{messagesIn}

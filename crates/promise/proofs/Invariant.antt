@@ -5,11 +5,11 @@ use mathlib.Core.List.{List, _++_, map, Memᴰ·append-left}
 use lib.ListN.{length}
 use Rattle.schedule.specs.Lists.{Every}
 use Rattle.schedule.specs.Messages.{Message}
-use Rattle.room.specs.Layout.{Store, channelsOf}
-use Rattle.queue.specs.Queue.{timeAt, endAfter, packetsFrom}
-use Rattle.view.specs.View.{Accepted}
-use Rattle.view.proofs.Seen.{Seen, Steady, Near, InBurst, Within}
-use Rattle.sends.specs.Log.{Logged}
+use Rattle.store.specs.Layout.{Store, channelsOf}
+use Rattle.promise_queue.specs.Queue.{timeAt, endAfter, packetsFrom}
+use Rattle.promise_view.specs.View.{Accepted}
+use Rattle.promise_view.proofs.Seen.{Seen, Steady, Near, InBurst, Within}
+use Rattle.promise_sends.specs.Log.{Logged}
 use Rattle.promise.specs.Promise.{Event, Packet, packetsIn, sendsIn, nameOf, AsOpened, WasOpened}
 use Rattle.promise.specs.Promise.Event.{opened, accepted, sent}
 use Rattle.promise.proofs.History.{messagesIn}

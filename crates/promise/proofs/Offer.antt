@@ -1,4 +1,4 @@
--- An offer keeps the invariant. Assumes nothing.
+-- An offer keeps the invariant.
 use Prim.Native.Nat.{ℕ, zero, suc, _+_, _-_}
 use mathlib.Core.Path.{_≡_, refl, _∙_, sym}
 use mathlib.Core.List.{List, [], _∷_, _++_, map, append-nil, map-append}
@@ -8,26 +8,26 @@ use lib.ListN.{length}
 use Rattle.schedule.specs.Lists.{Every}
 use Rattle.schedule.specs.Messages.{Message, ended}
 use Rattle.schedule.proofs.Lists.{every-append, every-imp}
-use Rattle.room.specs.Layout.{Store}
-use Rattle.room.specs.Amounts.{acceptedOf}
-use Rattle.alike.proofs.Settled.{channels-same}
-use Rattle.traffic.specs.declared.Offered.the-variants.{Accepted}
-use Rattle.traffic.specs.Offer.{offered, offerAnswer, offerStore}
-use Rattle.queue.specs.Queue.{packetsFrom, packetsOf as namesOf}
-use Rattle.queue.proofs.Ends.{end-all}
-use Rattle.queue.proofs.More.{length-more, time-new, end-old, end-new, Longer, as-long, one-longer}
-use Rattle.queue.proofs.Packets.{packets-more}
-use Rattle.view.proofs.Counted.{accepted-count}
-use Rattle.offers.proofs.Passed.{Passed, Adds, message}
-use Rattle.offers.proofs.Kept.{offer-settled}
-use Rattle.offers.proofs.Seen.{offer-seen}
-use Rattle.offers.proofs.Steady.{offer-steady}
-use Rattle.offers.proofs.Near.{offer-near, offer-in-burst, offer-within}
-use Rattle.offers.proofs.Answer.{AcceptedIs, accepted-is}
-use Rattle.sends.proofs.Offer.{offer-logged}
+use Rattle.store.specs.Layout.{Store}
+use Rattle.store.specs.Amounts.{acceptedOf}
+use Rattle.store_same.proofs.Settled.{channels-same}
+use Rattle.offer_rules.specs.declared.Offered.the-variants.{Accepted}
+use Rattle.offer_rules.specs.Offer.{offered, offerAnswer, offerStore}
+use Rattle.promise_queue.specs.Queue.{packetsFrom, packetsOf as namesOf}
+use Rattle.promise_queue.proofs.Ends.{end-all}
+use Rattle.promise_queue.proofs.More.{length-more, time-new, end-old, end-new, Longer, as-long, one-longer}
+use Rattle.promise_queue.proofs.Packets.{packets-more}
+use Rattle.promise_view.proofs.Counted.{accepted-count}
+use Rattle.promise_offer.proofs.Passed.{Passed, Adds, message}
+use Rattle.promise_offer.proofs.Kept.{offer-settled}
+use Rattle.promise_offer.proofs.Seen.{offer-seen}
+use Rattle.promise_offer.proofs.Steady.{offer-steady}
+use Rattle.promise_offer.proofs.Near.{offer-near, offer-in-burst, offer-within}
+use Rattle.promise_offer.proofs.Answer.{AcceptedIs, accepted-is}
+use Rattle.promise_sends.proofs.Offer.{offer-logged}
 use Rattle.promise.specs.Promise.{Event, Packet, packetsOf, packetsIn, sendsIn, nameOf}
 use Rattle.promise.specs.Promise.Event.{accepted}
-use Rattle.alike.proofs.Numbers.{settled-numbers}
+use Rattle.store_same.proofs.Numbers.{settled-numbers}
 use Rattle.promise.proofs.History.{messagesIn, messages-same, messages-new, packets-same, packets-new, sends-on}
 use Rattle.promise.proofs.Invariant.{Invariant, IsMessage, EventIs, Timed, still-opened}
 use Rattle.promise.proofs.Events.{events-stay}

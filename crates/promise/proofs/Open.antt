@@ -1,30 +1,30 @@
--- Set-up makes the invariant, and an open keeps it. Assumes nothing.
+-- Set-up makes the invariant, and an open keeps it.
 use Prim.Native.Nat.{ℕ, _<_}
 use mathlib.Core.Path.{_≡_, refl, _∙_, fun-ext}
 use mathlib.Core.List.{List, [], _∷_, _++_, append-nil, Memᴰ·append-right, List·Memᴰ·head}
 use native.Mathlib.Omega.{arith}
 use Rattle.schedule.proofs.Lists.{every-append}
-use Rattle.room.specs.Layout.{Store, channelsOf, hopsOf, sentOf}
-use Rattle.room.proofs.Laws.Folds.{below}
+use Rattle.store.specs.Layout.{Store, channelsOf, hopsOf, sentOf}
+use Rattle.folds.proofs.Folds.{below}
 use Rattle.setup.specs.declared.SetUp.the-variants.{Ready}
 use Rattle.setup.specs.SetUp.{setUpAnswer, setUpStore}
-use Rattle.opening.specs.declared.Outcome.the-variants.{Accepted}
-use Rattle.opening.specs.Request.{Request, hops}
-use Rattle.opening.specs.Refusal.{delaysOf, reservedFor}
-use Rattle.opening.specs.Open.{openOutcome, openAnswer, openStore}
-use Rattle.queue.specs.Queue.{packetsFrom}
-use Rattle.opening.proofs.Laws.Eight.{eight-at}
-use Rattle.opens.proofs.Fresh.{fresh-channels, fresh-seen, fresh-steady, fresh-near, fresh-in-burst, fresh-within}
-use Rattle.opens.proofs.Granted.{Granted, granted}
-use Rattle.opens.proofs.Seen.{open-seen}
-use Rattle.opens.proofs.Steady.{open-steady}
-use Rattle.opens.proofs.Bounds.{open-near, open-in-burst, open-within}
-use Rattle.sends.proofs.Open.{none-logged, open-logged}
-use Rattle.queue.proofs.More.{as-long}
+use Rattle.open_rules.specs.declared.Outcome.the-variants.{Accepted}
+use Rattle.open_rules.specs.Request.{Request, hops}
+use Rattle.open_rules.specs.Refusal.{delaysOf, reservedFor}
+use Rattle.open_rules.specs.Open.{openOutcome, openAnswer, openStore}
+use Rattle.promise_queue.specs.Queue.{packetsFrom}
+use Rattle.open_rules.proofs.Laws.Eight.{eight-at}
+use Rattle.promise_open.proofs.Fresh.{fresh-channels, fresh-seen, fresh-steady, fresh-near, fresh-in-burst, fresh-within}
+use Rattle.promise_open.proofs.Granted.{Granted, granted}
+use Rattle.promise_open.proofs.Seen.{open-seen}
+use Rattle.promise_open.proofs.Steady.{open-steady}
+use Rattle.promise_open.proofs.Bounds.{open-near, open-in-burst, open-within}
+use Rattle.promise_sends.proofs.Open.{none-logged, open-logged}
+use Rattle.promise_queue.proofs.More.{as-long}
 use Rattle.promise.specs.Promise.{Event, packetsIn, sendsIn, AsOpened}
 use Rattle.promise.specs.Promise.Event.{opened}
-use Rattle.alike.proofs.Same.{Keeps}
-use Rattle.alike.proofs.Numbers.{kept-numbers}
+use Rattle.store_same.proofs.Same.{Keeps}
+use Rattle.store_same.proofs.Numbers.{kept-numbers}
 use Rattle.promise.proofs.History.{messagesFrom, messagesIn, messages-same, packets-same, sends-on}
 use Rattle.promise.proofs.Invariant.{Invariant, EventIs, still-opened}
 use Rattle.promise.proofs.Events.{events-stay}

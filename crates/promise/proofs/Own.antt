@@ -1,5 +1,5 @@
 -- "whether a message is accepted, and its logical time, depends only on that channel's numbers, its own accepted messages, the
--- packets offered and the present slot". Assumes nothing.
+-- packets offered and the present slot".
 use Prim.Native.Nat.{ℕ, zero, suc, _-_, _*_}
 use mathlib.Core.Path.{_≡_, refl, ap, _∙_, sym}
 use mathlib.Core.Bool.{Bool, true, false}
@@ -9,16 +9,16 @@ use lib.ListN.{length, length-map}
 use borrow.Author.Tests.{ltb-true, lt-ltb}
 use Rattle.kinds.specs.Ranges.{within, endSlot}
 use Rattle.kinds.proofs.Laws.{within-true}
-use Rattle.room.specs.Layout.{Store, channelsOf, clockOf, cOf, messagesOf}
-use Rattle.room.specs.Sound.{soundOf}
-use Rattle.room.proofs.Laws.Sound.{is-sound}
+use Rattle.store.specs.Layout.{Store, channelsOf, clockOf, cOf, messagesOf}
+use Rattle.store.specs.Sound.{soundOf}
+use Rattle.store.proofs.Laws.Sound.{is-sound}
 use Rattle.checks.specs.Checks.{firstFailed}
 use Rattle.schedule.specs.Messages.{Message}
-use Rattle.opening.specs.declared.Opening.{Opening}
-use Rattle.opening.specs.Request.{Request}
-use Rattle.traffic.specs.Offer.{offerTime, inBurst, offered, offerAnswer}
-use Rattle.offers.proofs.Time.{offer-time-first, offer-time-next}
-use Rattle.offers.proofs.Seen.{offer-sound}
+use Rattle.open_rules.specs.declared.Opening.{Opening}
+use Rattle.open_rules.specs.Request.{Request}
+use Rattle.offer_rules.specs.Offer.{offerTime, inBurst, offered, offerAnswer}
+use Rattle.promise_offer.proofs.Time.{offer-time-first, offer-time-next}
+use Rattle.promise_offer.proofs.Seen.{offer-sound}
 use Rattle.promise.specs.Promise.{Event, timesIn, ownTime, ownAnswer, AsOpened}
 use Rattle.promise.proofs.History.{messagesIn, times-are, own-first, own-next}
 use Rattle.promise.proofs.Invariant.{Invariant}

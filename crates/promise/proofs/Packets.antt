@@ -1,4 +1,4 @@
--- A channel's packets by number: what has happened, as crate `queue` has it. Assumes nothing.
+-- A channel's packets by number: what has happened, as crate `promise_queue` has it.
 use Prim.Native.Nat.{ℕ, zero, suc, _+_, _-_, _≤_, _<_}
 use mathlib.Core.Path.{_≡_, refl, ap, _∙_, sym}
 use mathlib.Core.List.{List, [], _∷_, _++_, map}
@@ -9,10 +9,10 @@ use lib.Seq.{take-suc}
 use Rattle.schedule.specs.Lists.{Every}
 use Rattle.schedule.specs.Messages.{Message, Orderly, ended}
 use Rattle.schedule.proofs.Lists.{same-at}
-use Rattle.queue.specs.Queue.{endAfter, passed, packetsFrom}
-use Rattle.queue.proofs.Ends.{end-all}
-use Rattle.queue.proofs.Few.{passed-end, passed-next}
-use Rattle.queue.proofs.Packets.{packets-length, packet-next}
+use Rattle.promise_queue.specs.Queue.{endAfter, passed, packetsFrom}
+use Rattle.promise_queue.proofs.Ends.{end-all}
+use Rattle.promise_queue.proofs.Few.{passed-end, passed-next}
+use Rattle.promise_queue.proofs.Packets.{packets-length, packet-next}
 use Rattle.promise.specs.Promise.{Packet, nameOf}
 
 -- what holds of each from number a up to number b

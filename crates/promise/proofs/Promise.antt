@@ -1,25 +1,25 @@
 -- The theorem: whatever calls come in whatever order, all that specs/Promise.antt promises holds. Set-up makes the invariant,
--- each call keeps it, and each statement follows from it. Assumes nothing.
+-- each call keeps it, and each statement follows from it.
 use Prim.Native.Nat.{ℕ}
 use mathlib.Core.Path.{_≡_, refl}
 use mathlib.Core.List.{List, _++_, map, append-nil}
 use native.Mathlib.Omega.{arith}
-use Rattle.room.specs.Layout.{Store}
-use Rattle.room.proofs.Laws.Sound.{is-sound}
-use Rattle.opening.specs.declared.Outcome.{Outcome}
-use Rattle.opening.specs.declared.Outcome.the-variants.{Accepted as Opened, Refused as NotOpened}
-use Rattle.opening.specs.Request.{Request}
-use Rattle.opening.specs.Open.{openOutcome, openAnswer, openStore}
-use Rattle.traffic.specs.declared.Offered.{Offered}
-use Rattle.traffic.specs.declared.Offered.the-variants.{Accepted, Refused}
-use Rattle.traffic.specs.declared.Turn.{Turn}
-use Rattle.traffic.specs.declared.Turn.the-variants.{Ran, Refused as NotRun}
-use Rattle.traffic.specs.Offer.{offerAnswer, offerStore}
-use Rattle.traffic.specs.Slot.{slotTurn, slotNumber, slotSent, slotStore}
-use Rattle.admission.proofs.Laws.{never-17 as open-never}
-use Rattle.opens.proofs.Granted.{refused-store as refused-open}
-use Rattle.offers.proofs.Answer.{never-17 as offer-never}
-use Rattle.slots.proofs.Never.{never-17 as slot-never}
+use Rattle.store.specs.Layout.{Store}
+use Rattle.store.proofs.Laws.Sound.{is-sound}
+use Rattle.open_rules.specs.declared.Outcome.{Outcome}
+use Rattle.open_rules.specs.declared.Outcome.the-variants.{Accepted as Opened, Refused as NotOpened}
+use Rattle.open_rules.specs.Request.{Request}
+use Rattle.open_rules.specs.Open.{openOutcome, openAnswer, openStore}
+use Rattle.offer_rules.specs.declared.Offered.{Offered}
+use Rattle.offer_rules.specs.declared.Offered.the-variants.{Accepted, Refused}
+use Rattle.slot_rules.specs.declared.Turn.{Turn}
+use Rattle.slot_rules.specs.declared.Turn.the-variants.{Ran, Refused as NotRun}
+use Rattle.offer_rules.specs.Offer.{offerAnswer, offerStore}
+use Rattle.slot_rules.specs.Slot.{slotTurn, slotNumber, slotSent, slotStore}
+use Rattle.open.proofs.Laws.{never-17 as open-never}
+use Rattle.promise_open.proofs.Granted.{refused-store as refused-open}
+use Rattle.promise_offer.proofs.Answer.{never-17 as offer-never}
+use Rattle.promise_slot.proofs.Never.{never-17 as slot-never}
 use Rattle.promise.specs.Promise.{Call, Event, storeAfter, eventsIn, openEvents, offerEvents, Reached, Never17, Promise}
 use Rattle.promise.specs.Promise.Event.{sent}
 use Rattle.promise.specs.Promise.Call.{opens, offers, runs}

@@ -1,14 +1,14 @@
 -- A skip is so many slots, each of which runs and sends nothing: the store that it leaves is reached too, and nothing has
--- happened. Assumes nothing.
+-- happened.
 use Prim.Native.Nat.{ℕ, zero, suc, _*_, _≤_}
 use mathlib.Core.List.{List, append-nil}
 use native.Mathlib.Nat.{min-le-right}
 use native.Mathlib.Omega.{arith}
-use Rattle.room.specs.Layout.{Store, linksOf}
-use Rattle.room.proofs.Laws.Sound.{is-sound}
-use Rattle.traffic.specs.Idle.{idleOf, skipped, skipStore}
-use Rattle.wait.specs.Run.{run}
-use Rattle.wait.proofs.Run.{run-sent, skip-runs}
+use Rattle.store.specs.Layout.{Store, linksOf}
+use Rattle.store.proofs.Laws.Sound.{is-sound}
+use Rattle.slot_rules.specs.Idle.{idleOf, skipped, skipStore}
+use Rattle.slot_wait.specs.Run.{run}
+use Rattle.slot_wait.proofs.Run.{run-sent, skip-runs}
 use Rattle.promise.specs.Promise.{Event, storeAfter, eventsIn, Reached}
 use Rattle.promise.specs.Promise.Call.{runs}
 use Rattle.promise.specs.Promise.Reached.{next}

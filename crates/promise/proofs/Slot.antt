@@ -1,4 +1,4 @@
--- A slot keeps the invariant. Assumes nothing.
+-- A slot keeps the invariant.
 use Prim.Native.Nat.{ℕ, _<_}
 use mathlib.Core.Path.{_≡_, refl, _∙_, fun-ext}
 use mathlib.Core.List.{List, [], _∷_, _++_, map}
@@ -7,21 +7,21 @@ use borrow.Author.Tests.{ltb-true}
 use Rattle.schedule.specs.Lists.{Every}
 use Rattle.kinds.specs.Ranges.{endSlot}
 use Rattle.schedule.proofs.Lists.{every-append}
-use Rattle.room.specs.Layout.{Store, clockOf}
-use Rattle.alike.proofs.Settled.{channels-same}
+use Rattle.store.specs.Layout.{Store, clockOf}
+use Rattle.store_same.proofs.Settled.{channels-same}
 use Rattle.checks.proofs.Laws.{accepted-all}
-use Rattle.traffic.specs.declared.Turn.the-variants.{Ran, Refused as NotRun}
-use Rattle.traffic.specs.Slot.{Send, slotSends, moved, slotChecks, slotTurn, slotSent, slotStore}
-use Rattle.moved.proofs.After.{moved-settled}
-use Rattle.view.specs.View.{Accepted}
-use Rattle.slots.proofs.Steady.{steady-after}
-use Rattle.slots.proofs.Kept.{near-after, in-burst-after, within-after}
-use Rattle.slots.proofs.Sound.{seen-after}
-use Rattle.sends.proofs.After.{slot-logged}
-use Rattle.queue.proofs.More.{as-long}
+use Rattle.slot_rules.specs.declared.Turn.the-variants.{Ran, Refused as NotRun}
+use Rattle.slot_rules.specs.Slot.{Send, slotSends, moved, slotChecks, slotTurn, slotSent, slotStore}
+use Rattle.slot_keeps.proofs.After.{moved-settled}
+use Rattle.promise_view.specs.View.{Accepted}
+use Rattle.promise_slot.proofs.Steady.{steady-after}
+use Rattle.promise_slot.proofs.Kept.{near-after, in-burst-after, within-after}
+use Rattle.promise_slot.proofs.Sound.{seen-after}
+use Rattle.promise_sends.proofs.After.{slot-logged}
+use Rattle.promise_queue.proofs.More.{as-long}
 use Rattle.promise.specs.Promise.{Event, packetsIn, sendsIn}
 use Rattle.promise.specs.Promise.Event.{sent}
-use Rattle.alike.proofs.Numbers.{settled-numbers}
+use Rattle.store_same.proofs.Numbers.{settled-numbers}
 use Rattle.promise.proofs.History.{messagesIn, messages-same, packets-same, sends-without, sends-on, sends-sent}
 use Rattle.promise.proofs.Invariant.{Invariant, EventIs, still-opened}
 use Rattle.promise.proofs.Events.{events-stay}

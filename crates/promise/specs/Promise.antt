@@ -9,26 +9,26 @@ use mathlib.Core.List.{List, [], _∷_, _++_, map}
 use lib.Dec.{eqb, leb, ltb}
 use lib.ListN.{length, take, drop}
 use Rattle.kinds.specs.Ranges.{within, endSlot}
-use Rattle.room.specs.Layout.{Store, numberAt, linksOf, channelsOf, clockOf, bufferOf, rowsOf, cOf, pOf, dOf, bOf, hopsOf}
-use Rattle.room.specs.Layout.{routeOf, delayOf, sentOf}
-use Rattle.room.specs.Folds.{sumTo}
-use Rattle.room.specs.Amounts.{reservedOf, enteredOf}
-use Rattle.room.specs.Sound.{rowReservedOf}
+use Rattle.store.specs.Layout.{Store, numberAt, linksOf, channelsOf, clockOf, bufferOf, rowsOf, cOf, pOf, dOf, bOf, hopsOf}
+use Rattle.store.specs.Layout.{routeOf, delayOf, sentOf}
+use Rattle.folds.specs.Folds.{sumTo}
+use Rattle.store.specs.Amounts.{reservedOf, enteredOf}
+use Rattle.store.specs.Sound.{rowReservedOf}
 use Rattle.checks.specs.Checks.{check, firstFailed}
 use Rattle.setup.specs.declared.SetUp.the-variants.{Ready}
 use Rattle.setup.specs.SetUp.{setUpAnswer, setUpStore}
-use Rattle.opening.specs.declared.Outcome.{Outcome}
-use Rattle.opening.specs.declared.Outcome.the-variants.{Accepted as Opened, Refused as NotOpened}
-use Rattle.opening.specs.declared.Opening.{Opening}
-use Rattle.opening.specs.Request.{Request, hops, link}
-use Rattle.opening.specs.Open.{openOutcome, openAnswer, openStore}
-use Rattle.traffic.specs.declared.Offered.{Offered}
-use Rattle.traffic.specs.declared.Offered.the-variants.{Accepted, Refused}
-use Rattle.traffic.specs.Offer.{offerAnswer, offerStore}
-use Rattle.traffic.specs.Slot.{Send, slotNumber, slotSent, slotStore}
+use Rattle.open_rules.specs.declared.Outcome.{Outcome}
+use Rattle.open_rules.specs.declared.Outcome.the-variants.{Accepted as Opened, Refused as NotOpened}
+use Rattle.open_rules.specs.declared.Opening.{Opening}
+use Rattle.open_rules.specs.Request.{Request, hops, link}
+use Rattle.open_rules.specs.Open.{openOutcome, openAnswer, openStore}
+use Rattle.offer_rules.specs.declared.Offered.{Offered}
+use Rattle.offer_rules.specs.declared.Offered.the-variants.{Accepted, Refused}
+use Rattle.offer_rules.specs.Offer.{offerAnswer, offerStore}
+use Rattle.slot_rules.specs.Slot.{Send, slotNumber, slotSent, slotStore}
 use Rattle.schedule.specs.Lists.{Every, _∈_}
-use Rattle.queue.specs.Keep.{keep}
-use Rattle.sends.specs.Sends.{isOn, isMessage, nameOf as nameSent}
+use Rattle.promise_queue.specs.Keep.{keep}
+use Rattle.promise_sends.specs.Sends.{isOn, isMessage, nameOf as nameSent}
 
 -- Calls, and what happens.
 

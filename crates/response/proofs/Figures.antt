@@ -1,5 +1,5 @@
 -- Where there is no response: rows (1, 4, 2), (2, 6, 3), C 3, and a limit of 9, by three trials, 6→7→9→10. Computed from the
--- definitions. Assumes nothing.
+-- definitions.
 use mathlib.Core.Path.{_≡_, refl}
 use mathlib.Core.List.{List, [], _∷_}
 use Rattle.response.specs.declared.Row.{Row}

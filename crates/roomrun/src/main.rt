@@ -1,18 +1,18 @@
 // roomrun: plays a script of requests and slots from standard input, and writes the listing of document 01 to standard output.
-// What there is to say of it is said of the steps of crate `run`; here chunks are read, and the buffer is written out when it is
+// What there is to say of it is said of the steps of crate `script_run`; here chunks are read, and the buffer is written out when it is
 // full. docs/SCRIPT.md is the operator's reference.
 use libc::STDIN_FILENO;
 use libc::STDOUT_FILENO;
-use listing::LAST_FOR_SLOT;
-use play::Next;
-use play::Phase;
-use run::Run;
+use script_listing::LAST_FOR_SLOT;
+use script_play::Next;
+use script_play::Phase;
+use script_run::Run;
 ghost use mathlib.Core.Path.{_≡_};
 ghost use Prim.Native.Nat.{_≤_};
 ghost use lib.ListN.{length};
-ghost use Rattle.listing.specs.Buffer.{bufferLength, lastForSlot};
-ghost use Rattle.lines.specs.Lines.{mostKept};
-ghost use Rattle.play.specs.declared.Next.the-variants.{Line};
+ghost use Rattle.script_listing.specs.Buffer.{bufferLength, lastForSlot};
+ghost use Rattle.text_lines.specs.Lines.{mostKept};
+ghost use Rattle.script_play.specs.declared.Next.the-variants.{Line};
 
 // Writes out what stands in the buffer up to `end`.
 fn write_out(out: &[u8], end: usize)
@@ -47,7 +47,7 @@ fn play_slots(store: &mut [u64; 65536], run: Run, out: &mut [u8; 65536]) -> Run
             return after;
         };
         after.at = make_room(out, after.at);
-        after = run::slots(store, left, after, out);
+        after = script_run::slots(store, left, after, out);
     }
 }
 
@@ -72,7 +72,7 @@ fn play_chunk(
     after.from = 0;
     while after.from < chunk.len() {
         after.at = make_room(out, after.at);
-        after = run::line(store, links, text, chunk, after, out);
+        after = script_run::line(store, links, text, chunk, after, out);
         after = play_slots(store, after, out);
     }
     after
@@ -139,7 +139,7 @@ fn play_end(store: &mut [u64; 65536], links: &[u64; 68], run: Run, out: &mut [u8
 {
     let phase = run.phase;
     let at = make_room(out, run.at);
-    let end = play::finish(store, links, phase, out, at);
+    let end = script_play::finish(store, links, phase, out, at);
     write_out(out, end);
 }
 

@@ -1,4 +1,4 @@
--- A channel's course: what "on time" says of it, and how sends and offers change it. Assumes nothing.
+-- A channel's course: what "on time" says of it, and how sends and offers change it.
 use Prim.Native.Nat.{ℕ, zero, suc, _+_, _≤_, _<_}
 use mathlib.Core.Logic.{inl, inr}
 use native.Mathlib.Nat.{le-trans}

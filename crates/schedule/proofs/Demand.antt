@@ -1,5 +1,5 @@
 -- Theorem A: in a feasible table the demand of any stretch of time is at most its length. This is what earliest deadline
--- first needs (the processor demand test), from a test made for fixed priorities. Assumes nothing.
+-- first needs (the processor demand test), from a test made for fixed priorities.
 use Prim.Native.Nat.{ℕ, suc, _+_, _-_, _*_, _≤_, _<_}
 use mathlib.Core.Path.{_≡_}
 use mathlib.Core.List.{List, [], _∷_}

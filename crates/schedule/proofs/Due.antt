@@ -1,4 +1,4 @@
--- Laws of `jobs` and `demand`. Assumes nothing.
+-- Laws of `jobs` and `demand`.
 use Prim.Native.Nat.{ℕ, _+_, _-_, _*_, _/_, _≤_, _<_}
 use mathlib.Core.Path.{_≡_, ap, _∙_}
 use native.Mathlib.Nat.{mul-le-mul-left, le-div-iff-mul-le, div-lt-iff-lt-mul, lt-div-mul-add, add-div-right}

@@ -1,4 +1,4 @@
--- Laws of `Fits`, `Feasible` and `Sorted`. Assumes nothing.
+-- Laws of `Fits`, `Feasible` and `Sorted`.
 use Prim.Native.Nat.{ℕ, _≤_}
 use mathlib.Core.Path.{_≡_, refl, ap}
 use mathlib.Core.List.{List, [], _∷_, _++_, map, reverseAux}

@@ -1,4 +1,4 @@
--- What one row owes, as time passes and as its head changes. Assumes nothing.
+-- What one row owes, as time passes and as its head changes.
 use Prim.Native.Nat.{ℕ, suc, _+_, _≤_, _<_, max}
 use mathlib.Core.Path.{_≡_}
 use mathlib.Core.Logic.{inl, inr}

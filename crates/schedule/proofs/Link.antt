@@ -1,4 +1,4 @@
--- The invariant J of one link: what it gives, where it holds, and what keeps it. Assumes nothing.
+-- The invariant J of one link: what it gives, where it holds, and what keeps it.
 use Prim.Native.Nat.{ℕ, suc, _+_, _-_, _≤_, _<_}
 use mathlib.Core.Path.{_≡_}
 use mathlib.Core.Logic.{_⊎_, inl, inr}

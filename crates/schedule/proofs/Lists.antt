@@ -1,4 +1,4 @@
--- Laws of lists and of `Every`. Assumes nothing.
+-- Laws of lists and of `Every`.
 use Prim.Native.Nat.{ℕ, suc, _≤_, _<_}
 use mathlib.Core.Path.{_≡_, refl, ap, sym, _∙_}
 use mathlib.Core.Logic.{_⊎_, inl, inr}

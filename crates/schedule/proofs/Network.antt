@@ -1,5 +1,5 @@
 -- All links together. J on every link at t gives J on every link one slot later: a current head's packets are here, since
--- nothing is late on the link before. And J on every link stays through offers. Assumes nothing.
+-- nothing is late on the link before. And J on every link stays through offers.
 use Prim.Native.Nat.{ℕ, zero, suc, _+_, _≤_, _<_}
 use mathlib.Core.Path.{_≡_}
 use mathlib.Core.Logic.{_⊎_, inl, inr}

@@ -1,4 +1,4 @@
--- Theorem B: an open keeps a table feasible, and sorted by delay. Assumes nothing.
+-- Theorem B: an open keeps a table feasible, and sorted by delay.
 use Prim.Native.Nat.{ℕ, suc, _-_, _≤_, _<_}
 use mathlib.Core.Path.{_≡_, ap, sym, _∙_, subst}
 use mathlib.Core.List.{List, [], _∷_, _++_, append-assoc, reverseAux}

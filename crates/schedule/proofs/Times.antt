@@ -1,4 +1,4 @@
--- How many messages of one row can be about at one time: the facts behind the reserved packets. Assumes nothing.
+-- How many messages of one row can be about at one time: the facts behind the reserved packets.
 use Prim.Native.Nat.{ℕ, zero, suc, _+_, _-_, _*_, _/_, _≤_, _<_}
 use mathlib.Core.Path.{_≡_}
 use mathlib.Core.List.{List, [], _∷_}

@@ -1,4 +1,4 @@
--- Laws of `total`, a sum over a list. Assumes nothing.
+-- Laws of `total`, a sum over a list.
 use Prim.Native.Nat.{ℕ, _+_, _≤_, _<_}
 use mathlib.Core.Path.{_≡_, refl, ap}
 use mathlib.Core.List.{List, [], _∷_, _++_, map, List·Memᴰ·head, List·Memᴰ·tail}

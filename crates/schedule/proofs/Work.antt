@@ -1,4 +1,4 @@
--- Laws of `ceil` and `work` for the demand: what grows no faster than its length. Assumes nothing.
+-- Laws of `ceil` and `work` for the demand: what grows no faster than its length.
 use Prim.Native.Nat.{ℕ, zero, suc, _+_, _*_, _≤_}
 use mathlib.Core.Path.{_≡_}
 use mathlib.Core.List.{List, [], _∷_, _++_, reverseAux}

@@ -1,13 +1,13 @@
 -- Set-up answered by the definitions, for a store of any numbers: the two links of document 01's listing, and each way in
--- which a list is refused. Computed. Assumes nothing.
+-- which a list is refused. Computed.
 use Prim.Native.Nat.{ℕ, _<_}
 use mathlib.Core.Path.{_≡_, refl}
 use mathlib.Core.List.{List, [], _∷_, _++_}
 use lib.ListN.{length, replicate}
-use Rattle.room.specs.Folds.{every, firstNot}
-use Rattle.room.specs.Layout.{Store, Long, storeLength}
+use Rattle.folds.specs.Folds.{every, firstNot}
+use Rattle.store.specs.Layout.{Store, Long, storeLength}
 use Rattle.setup.specs.declared.SetUp.the-variants.{Ready, Refused}
-use Rattle.list.specs.List.{linkPassesAt}
+use Rattle.setup_list.specs.List.{linkPassesAt}
 use Rattle.setup.specs.SetUp.{setUpAnswer}
 use Rattle.setup.proofs.Laws.Answer.{accepted-ready, refused-short}
 

@@ -1,21 +1,21 @@
--- How the ends of set-up meet the definitions. Assumes nothing.
+-- How the ends of set-up meet the definitions.
 use Prim.Native.Nat.{ℕ, _<_}
 use mathlib.Core.Path.{_≡_, sym, _∙_}
 use mathlib.Core.Bool.{true, false}
 use mathlib.Core.List.{List}
 use lib.ListN.{length}
 use Rattle.kinds.specs.Ranges.{inRangeLinks}
-use Rattle.room.specs.Folds.{firstNot}
-use Rattle.room.specs.Layout.{Store, storeLength, withLinks}
+use Rattle.folds.specs.Folds.{firstNot}
+use Rattle.store.specs.Layout.{Store, storeLength, withLinks}
 use Rattle.setup.specs.declared.SetUp.{SetUp}
 use Rattle.setup.specs.declared.SetUp.the-variants.{Ready, Refused}
-use Rattle.list.specs.List.{linksIn, linkPassesAt, linksPass}
-use Rattle.fresh.specs.Fresh.{zeroed, linksWritten}
-use Rattle.fresh.specs.Fresh.{freshStore}
+use Rattle.setup_list.specs.List.{linksIn, linkPassesAt, linksPass}
+use Rattle.setup_fresh.specs.Fresh.{zeroed, linksWritten}
+use Rattle.setup_fresh.specs.Fresh.{freshStore}
 use Rattle.setup.specs.SetUp.{setUpAnswer, setUpStore}
 use Rattle.setup.proofs.Laws.Answer.{Accepted, refused-count, refused-link, refused-short, accepted-ready}
 use Rattle.setup.proofs.Laws.Answer.{ready-store, refused-store}
-use Rattle.list.proofs.Steps.{bad-fails}
+use Rattle.setup_list.proofs.Steps.{bad-fails}
 
 -- what the code answers, and what it leaves in the store, at each of its ends
 module _ (w : Store) (numbers : List ℕ) where

@@ -3,13 +3,13 @@ use Prim.Native.Nat.{ℕ}
 use mathlib.Core.Bool.{true, false}
 use mathlib.Core.List.{List}
 use Rattle.kinds.specs.Ranges.{inRangeLinks}
-use Rattle.room.specs.Folds.{firstNot}
-use Rattle.room.specs.Layout.{Store}
-use Rattle.room.specs.Sound.{longEnough}
+use Rattle.folds.specs.Folds.{firstNot}
+use Rattle.store.specs.Layout.{Store}
+use Rattle.store.specs.Sound.{longEnough}
 use Rattle.setup.specs.declared.SetUp.{SetUp}
 use Rattle.setup.specs.declared.SetUp.the-variants.{Ready, Refused}
-use Rattle.list.specs.List.{linksIn, linkPassesAt, linksPass}
-use Rattle.fresh.specs.Fresh.{freshStore}
+use Rattle.setup_list.specs.List.{linksIn, linkPassesAt, linksPass}
+use Rattle.setup_fresh.specs.Fresh.{freshStore}
 
 -- "set-up 16, then 17 exactly if the lent store is shorter than one fixed length". 16: "no links or more than 16 (place 0,
 -- looked at first)"; then the links in turn, place: "first such".

@@ -1,6 +1,6 @@
 // Network set-up: document 01, refusals 16 and 17.
 use kinds::Network;
-use room::LENGTH;
+use store::LENGTH;
 ghost use mathlib.Core.Path.{_≡_};
 ghost use Rattle.setup.specs.SetUp.{setUpAnswer, setUpStore};
 
@@ -15,19 +15,19 @@ pub fn set_up(store: &mut [u64], links: &[u64]) -> SetUp
     ensures { λ r. ⌜ r ≡ setUpAnswer (now (store .entry)) (now (links .entry)) ⌝ }
     ensures { λ _. ⌜ now (store .exit) ≡ setUpStore (now (store .entry)) (now (links .entry)) ⌝ }
 {
-    let n = list::links_in(links);
+    let n = setup_list::links_in(links);
     if !Network::links_fit(n as u64) {
         return SetUp::Refused(16, 0);
     }
-    let bad = list::bad_link(links, n);
+    let bad = setup_list::bad_link(links, n);
     if bad < n {
         return SetUp::Refused(16, bad as u64);
     }
     if store.len() < LENGTH {
         return SetUp::Refused(17, 0);
     }
-    fresh::clear(store);
-    room::head::put_links(store, n);
-    fresh::put_links(store, links, n);
+    setup_fresh::clear(store);
+    store::head::put_links(store, n);
+    setup_fresh::put_links(store, links, n);
     SetUp::Ready
 }

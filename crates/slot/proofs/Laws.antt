@@ -1,4 +1,4 @@
--- What a slot says of the store and the output that it leaves, for the crates above. Assumes nothing.
+-- What a slot says of the store and the output that it leaves, for the crates above.
 use Prim.Native.Nat.{ℕ, _*_, _≤_, _<_}
 use mathlib.Core.Path.{_≡_, refl, sym}
 use mathlib.Core.Bool.{true}
@@ -9,17 +9,17 @@ use lib.ListN.{length, take}
 use lib.Seq.{take-at}
 use borrow.Author.Tests.{leb-true, ltb-true}
 use Rattle.kinds.specs.Ranges.{endSlot}
-use Rattle.room.specs.Layout.{Store, linksOf, clockOf}
-use Rattle.room.specs.Sound.{soundOf}
+use Rattle.store.specs.Layout.{Store, linksOf, clockOf}
+use Rattle.store.specs.Sound.{soundOf}
 use Rattle.checks.proofs.Laws.{AllHold, accepted-all, refused-one}
-use Rattle.traffic.specs.declared.Turn.{Turn}
-use Rattle.traffic.specs.declared.Turn.the-variants.{Ran, Refused}
-use Rattle.traffic.specs.Slot.{Send, numbers, slotSends, moved, slotChecks, slotTurn, slotNumber, slotPlace, slotSent, slotStore}
-use Rattle.traffic.specs.Slot.{written, slotOut}
-use Rattle.traffic.proofs.Laws.Sends.{numbers-length, sends-most, written-none}
-use Rattle.pick.specs.Picks.{picksTo}
-use Rattle.turn.specs.Left.{picksLeft}
-use Rattle.turn.proofs.Checks.{never-ran, picks-made}
+use Rattle.slot_rules.specs.declared.Turn.{Turn}
+use Rattle.slot_rules.specs.declared.Turn.the-variants.{Ran, Refused}
+use Rattle.slot_rules.specs.Slot.{Send, numbers, slotSends, moved, slotChecks, slotTurn, slotNumber, slotPlace, slotSent, slotStore}
+use Rattle.slot_rules.specs.Slot.{written, slotOut}
+use Rattle.slot_rules.proofs.Laws.Sends.{numbers-length, sends-most, written-none}
+use Rattle.slot_pick.specs.Picks.{picksTo}
+use Rattle.slot_checks.specs.Left.{picksLeft}
+use Rattle.slot_checks.proofs.Checks.{never-ran, picks-made}
 
 -- "slot 17, 14, 15"; "where none is named it is 0"
 abbrev pub Refusal : (number place : ℕ) → Type 0

@@ -1,9 +1,9 @@
 // Running a slot: document 01, "A slot". First it is found out whether the slot runs; then the sends go into the lent output, and
 // the picked packets move on.
-use traffic::Turn;
+use slot_rules::Turn;
 ghost use mathlib.Core.Path.{_≡_};
 ghost use lib.ListN.{length};
-ghost use Rattle.traffic.specs.Slot.{numbers, slotNumber, slotPlace, slotSent, slotStore, slotOut};
+ghost use Rattle.slot_rules.specs.Slot.{numbers, slotNumber, slotPlace, slotSent, slotStore, slotOut};
 
 // Runs a slot, or refuses and leaves the store and the output alone: how many packets were sent. The sends stand at the front of
 // `out`, five numbers each; `number` and `place` are those of the refusal, 0 and 0 if the slot ran.
@@ -15,7 +15,7 @@ pub fn run(store: &mut [u64], out: &mut [u64], number: &mut u64, place: &mut u64
     ensures { λ _. ⌜ now (place .exit) ≡ slotPlace (now (store .entry)) (length (now (out .entry))) ⌝ }
 {
     let mut picks = [0u64; 16];
-    let turn = turn::turn(store, out.len(), &mut picks);
+    let turn = slot_checks::turn(store, out.len(), &mut picks);
     if let Turn::Refused(n, at) = turn {
         *number = n;
         *place = at;
@@ -23,8 +23,8 @@ pub fn run(store: &mut [u64], out: &mut [u64], number: &mut u64, place: &mut u64
     }
     *number = 0;
     *place = 0;
-    let sends = carry::report(store, out, &picks);
-    carry::move_on(store, &picks);
+    let sends = slot_move::report(store, out, &picks);
+    slot_move::move_on(store, &picks);
     sends
 }
 

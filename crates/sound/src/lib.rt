@@ -4,17 +4,17 @@ use kinds::CheckedLink;
 use kinds::Link;
 use kinds::Network;
 use kinds::Slot;
-use room::channel;
-use room::head;
-use room::link;
+use store::channel;
+use store::head;
+use store::link;
 ghost use mathlib.Core.Path.{_≡_};
 ghost use mathlib.Core.Bool.{true};
 ghost use Prim.Native.Nat.{_<_};
 ghost use Rattle.kinds.specs.Ranges.{mostLinks};
-ghost use Rattle.room.specs.Layout.{Long, linksOf, channelsOf, rowsOf, hopsOf};
-ghost use Rattle.room.specs.Folds.{every, sumTo};
-ghost use Rattle.room.specs.Sound.{countsFit, linkFits, channelSound, rowsSound, allListed, soundOf};
-ghost use Rattle.room.specs.Ranged.{Fit};
+ghost use Rattle.store.specs.Layout.{Long, linksOf, channelsOf, rowsOf, hopsOf};
+ghost use Rattle.folds.specs.Folds.{every, sumTo};
+ghost use Rattle.store.specs.Sound.{countsFit, linkFits, channelSound, rowsSound, allListed, soundOf};
+ghost use Rattle.store.specs.Ranged.{Fit};
 
 // Whether the counts of the head and the clock are in range.
 fn counts_fit(store: &[u64]) -> bool
@@ -72,7 +72,7 @@ fn channels_sound(store: &[u64]) -> bool
     let channels = head::channels(store);
     let mut c: usize = 0;
     while c < channels {
-        if !stream::channel_is_sound(store, c) {
+        if !sound_channel::channel_is_sound(store, c) {
             return false;
         }
         c += 1;
@@ -124,7 +124,7 @@ fn all_listed(store: &[u64]) -> bool
 pub fn is_sound(store: &[u64]) -> bool
     ensures { λ r. ⌜ r ≡ soundOf (now (store .entry)) ⌝ }
 {
-    if store.len() < room::LENGTH {
+    if store.len() < store::LENGTH {
         return false;
     }
     if !counts_fit(store) {
@@ -136,7 +136,7 @@ pub fn is_sound(store: &[u64]) -> bool
     if !channels_sound(store) {
         return false;
     }
-    if !rows::rows_sound(store) {
+    if !sound_rows::rows_sound(store) {
         return false;
     }
     all_listed(store)

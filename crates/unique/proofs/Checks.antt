@@ -1,12 +1,12 @@
--- The parts of set-up and of the soundness of a store: the contract of each permits one outcome only. Assumes nothing.
+-- The parts of set-up and of the soundness of a store: the contract of each permits one outcome only.
 use mathlib.Core.Path.{refl}
 use Rattle.kinds.proofs as kinds
-use Rattle.list.proofs as list
-use Rattle.fresh.proofs as fresh
-use Rattle.route.proofs as route
-use Rattle.messages.proofs as messages
-use Rattle.stream.proofs as stream
-use Rattle.rows.proofs as rows
+use Rattle.setup_list.proofs as setup-list
+use Rattle.setup_fresh.proofs as setup-fresh
+use Rattle.store_route.proofs as store-route
+use Rattle.sound_messages.proofs as sound-messages
+use Rattle.sound_channel.proofs as sound-channel
+use Rattle.sound_rows.proofs as sound-rows
 use Rattle.unique.specs.Unique.{Unique}
 use Rattle.unique.proofs.Same.{same}
 
@@ -40,47 +40,47 @@ kinds-slot-is-slot κs a x y = (same (x .meets) (y .meets), refl)
 pub kinds-slot-is-number : Unique kinds.Slot.is_number.ended kinds.Slot.is_number.Reads.Post
 kinds-slot-is-number κs a x y = (same (x .meets) (y .meets), refl)
 
-pub list-links-in : Unique list.links_in.ended list.links_in.Reads.Post
-list-links-in κs a x y = (same (x .meets) (y .meets), refl)
+pub setup-list-links-in : Unique setup-list.links_in.ended setup-list.links_in.Reads.Post
+setup-list-links-in κs a x y = (same (x .meets) (y .meets), refl)
 
-pub list-bad-link : Unique list.bad_link.ended list.bad_link.Reads.Post
-list-bad-link κs a x y = (same (x .meets) (y .meets), refl)
+pub setup-list-bad-link : Unique setup-list.bad_link.ended setup-list.bad_link.Reads.Post
+setup-list-bad-link κs a x y = (same (x .meets) (y .meets), refl)
 
-pub fresh-clear : Unique fresh.clear.ended fresh.clear.Reads.Post
-fresh-clear κs a x y = (refl, λ i. (same (x .meets) (y .meets) i, tt))
+pub setup-fresh-clear : Unique setup-fresh.clear.ended setup-fresh.clear.Reads.Post
+setup-fresh-clear κs a x y = (refl, λ i. (same (x .meets) (y .meets) i, tt))
 
-pub fresh-put-links : Unique fresh.put_links.ended fresh.put_links.Reads.Post
-fresh-put-links κs a x y = (refl, λ i. (same (x .meets) (y .meets) i, x .last .1))
+pub setup-fresh-put-links : Unique setup-fresh.put_links.ended setup-fresh.put_links.Reads.Post
+setup-fresh-put-links κs a x y = (refl, λ i. (same (x .meets) (y .meets) i, x .last .1))
 
-pub route-unknown-link : Unique route.unknown_link.ended route.unknown_link.Reads.Post
-route-unknown-link κs a x y = (same (x .meets) (y .meets), refl)
+pub store-route-unknown-link : Unique store-route.unknown_link.ended store-route.unknown_link.Reads.Post
+store-route-unknown-link κs a x y = (same (x .meets) (y .meets), refl)
 
-pub route-repeated-link : Unique route.repeated_link.ended route.repeated_link.Reads.Post
-route-repeated-link κs a x y = (same (x .meets) (y .meets), refl)
+pub store-route-repeated-link : Unique store-route.repeated_link.ended store-route.repeated_link.Reads.Post
+store-route-repeated-link κs a x y = (same (x .meets) (y .meets), refl)
 
-pub route-parted-link : Unique route.parted_link.ended route.parted_link.Reads.Post
-route-parted-link κs a x y = (same (x .meets) (y .meets), refl)
+pub store-route-parted-link : Unique store-route.parted_link.ended store-route.parted_link.Reads.Post
+store-route-parted-link κs a x y = (same (x .meets) (y .meets), refl)
 
-pub route-passes : Unique route.passes.ended route.passes.Reads.Post
-route-passes κs a x y = (same (x .meets) (y .meets), refl)
+pub store-route-passes : Unique store-route.passes.ended store-route.passes.Reads.Post
+store-route-passes κs a x y = (same (x .meets) (y .meets), refl)
 
-pub route-reserved : Unique route.reserved.ended route.reserved.Reads.Post
-route-reserved κs a x y = (same (x .meets) (y .meets), refl)
+pub store-route-reserved : Unique store-route.reserved.ended store-route.reserved.Reads.Post
+store-route-reserved κs a x y = (same (x .meets) (y .meets), refl)
 
-pub route-entered : Unique route.entered.ended route.entered.Reads.Post
-route-entered κs a x y = (same (x .meets) (y .meets), refl)
+pub store-route-entered : Unique store-route.entered.ended store-route.entered.Reads.Post
+store-route-entered κs a x y = (same (x .meets) (y .meets), refl)
 
-pub route-held : Unique route.held.ended route.held.Reads.Post
-route-held κs a x y = (same (x .meets) (y .meets), refl)
+pub store-route-held : Unique store-route.held.ended store-route.held.Reads.Post
+store-route-held κs a x y = (same (x .meets) (y .meets), refl)
 
-pub messages-in-order : Unique messages.in_order.ended messages.in_order.Reads.Post
-messages-in-order κs a x y = (same (x .meets) (y .meets), refl)
+pub sound-messages-in-order : Unique sound-messages.in_order.ended sound-messages.in_order.Reads.Post
+sound-messages-in-order κs a x y = (same (x .meets) (y .meets), refl)
 
-pub messages-messages-fit : Unique messages.messages_fit.ended messages.messages_fit.Reads.Post
-messages-messages-fit κs a x y = (same (x .meets) (y .meets), refl)
+pub sound-messages-messages-fit : Unique sound-messages.messages_fit.ended sound-messages.messages_fit.Reads.Post
+sound-messages-messages-fit κs a x y = (same (x .meets) (y .meets), refl)
 
-pub stream-channel-is-sound : Unique stream.channel_is_sound.ended stream.channel_is_sound.Reads.Post
-stream-channel-is-sound κs a x y = (same (x .meets) (y .meets), refl)
+pub sound-channel-channel-is-sound : Unique sound-channel.channel_is_sound.ended sound-channel.channel_is_sound.Reads.Post
+sound-channel-channel-is-sound κs a x y = (same (x .meets) (y .meets), refl)
 
-pub rows-rows-sound : Unique rows.rows_sound.ended rows.rows_sound.Reads.Post
-rows-rows-sound κs a x y = (same (x .meets) (y .meets), refl)
+pub sound-rows-rows-sound : Unique sound-rows.rows_sound.ended sound-rows.rows_sound.Reads.Post
+sound-rows-rows-sound κs a x y = (same (x .meets) (y .meets), refl)

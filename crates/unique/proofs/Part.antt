@@ -1,5 +1,5 @@
 -- `slot::slot`, which gives back a part of the lent output: the numbers in it, and the later store, number and place. Of the rest
--- of the output the signature lets no contract speak; `slot::run` says all of it. Assumes nothing.
+-- of the output the signature lets no contract speak; `slot::run` says all of it.
 use mathlib.Core.Path.{_≡_}
 use contract.Lifetimes.{Lfts}
 use denote.Triple.Entry.{Args}

@@ -1,8 +1,8 @@
--- The fields of the store: the contract of each function permits one outcome only. Assumes nothing.
+-- The fields of the store: the contract of each function permits one outcome only.
 use mathlib.Core.Path.{refl}
-use Rattle.room.proofs.channel as channel
-use Rattle.room.proofs.head as head
-use Rattle.room.proofs.link as link
+use Rattle.store.proofs.channel as channel
+use Rattle.store.proofs.head as head
+use Rattle.store.proofs.link as link
 use Rattle.unique.specs.Unique.{Unique}
 use Rattle.unique.proofs.Same.{same}
 

@@ -1,5 +1,4 @@
 -- `kinds::is_within` meets its contract: each half of the test is the definition's.
--- Assumes nothing.
 use borrow.Author.Tests.{le-leb, lt-leb}
 use Rattle.kinds.proofs.is_within.Statement.{statement}
 use Rattle.kinds.proofs.is_within.Tie as tie

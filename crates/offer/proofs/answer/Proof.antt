@@ -1,4 +1,4 @@
--- `offer::answer` meets its contract: each check is looked at once those before it hold. Assumes nothing.
+-- `offer::answer` meets its contract: each check is looked at once those before it hold.
 use Prim.Native.Nat.{_<_}
 use mathlib.Core.Path.{_≡_, refl, sym, _∙_}
 use mathlib.Core.Bool.{true}
@@ -7,12 +7,12 @@ use borrow.Author.Needs.{needs}
 use borrow.Author.Tests.{ltb-true}
 use lib.ListN.{take}
 use Rattle.kinds.proofs.Laws.{refuted, held}
-use Rattle.room.specs.Layout.{Store, channelsOf}
-use Rattle.room.specs.Sound.{soundOf}
-use Rattle.room.proofs.Laws.Sound.{sound-is}
+use Rattle.store.specs.Layout.{Store, channelsOf}
+use Rattle.store.specs.Sound.{soundOf}
+use Rattle.store.proofs.Laws.Sound.{sound-is}
 use Rattle.checks.specs.Checks.{Check}
 use Rattle.checks.proofs.Laws.{AllHold, one-more}
-use Rattle.traffic.specs.Offer.{offerChecks}
+use Rattle.offer_rules.specs.Offer.{offerChecks}
 use Rattle.offer.proofs.Facts.{readable}
 use Rattle.offer.proofs.Steps.{at-least, under, unknown, known}
 use Rattle.offer.proofs.Outcome.{Passed, passed-is, room-decides, answer-refused, answer-accepted}

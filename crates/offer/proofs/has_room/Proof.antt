@@ -1,4 +1,4 @@
--- `offer::has_room` meets its contract: test by test. Assumes nothing.
+-- `offer::has_room` meets its contract: test by test.
 use native.Mathlib.Omega.{arith}
 use borrow.Author.Needs.{needs}
 use Rattle.offer.proofs.Facts.{readable, channel, ranged, count-fits, held-fits}

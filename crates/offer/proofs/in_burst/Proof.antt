@@ -1,4 +1,4 @@
--- `offer::in_burst` meets its contract: the definition's test, on the numbers as they are read. Assumes nothing.
+-- `offer::in_burst` meets its contract: the definition's test, on the numbers as they are read.
 use native.Mathlib.Omega.{arith}
 use Rattle.offer.proofs.Facts.{long, readable, channel, burst-fits}
 use Rattle.offer.proofs.Steps.{time-least, burst-is}

@@ -1,4 +1,4 @@
--- `offer::is_message` meets its contract. Assumes nothing.
+-- `offer::is_message` meets its contract.
 use Rattle.offer.proofs.Facts.{readable}
 use Rattle.offer.proofs.Steps.{size-none, size-is}
 use Rattle.offer.proofs.is_message.Statement.{statement}

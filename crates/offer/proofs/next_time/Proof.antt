@@ -1,4 +1,4 @@
--- `offer::next_time` meets its contract: the larger of the two, or the present slot for the first message. Assumes nothing.
+-- `offer::next_time` meets its contract: the larger of the two, or the present slot for the first message.
 use Rattle.offer.proofs.Facts.{long, readable, time-fits}
 use Rattle.offer.proofs.Steps.{time-first, time-after, time-present}
 use Rattle.offer.proofs.next_time.Statement.{statement}

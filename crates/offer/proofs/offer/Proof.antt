@@ -1,10 +1,10 @@
--- `offer::offer` meets its contract: what the answer says yes to is written, and nothing else. Assumes nothing.
+-- `offer::offer` meets its contract: what the answer says yes to is written, and nothing else.
 use mathlib.Core.Path.{_≡_, sym, _∙_}
 use borrow.Author.Needs.{needs}
-use Rattle.room.specs.Layout.{Store}
-use Rattle.traffic.specs.declared.Offered.{Offered}
-use Rattle.traffic.specs.declared.Offered.the-variants.{Accepted, Refused}
-use Rattle.traffic.specs.Offer.{offerAnswer}
+use Rattle.store.specs.Layout.{Store}
+use Rattle.offer_rules.specs.declared.Offered.{Offered}
+use Rattle.offer_rules.specs.declared.Offered.the-variants.{Accepted, Refused}
+use Rattle.offer_rules.specs.Offer.{offerAnswer}
 use Rattle.offer.proofs.Laws.{accepted-passed, accepted-number, accepted-time, accepted-store, refused-store}
 use Rattle.offer.proofs.offer.Statement.{statement}
 use Rattle.offer.proofs.offer.Tie as tie

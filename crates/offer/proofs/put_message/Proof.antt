@@ -1,4 +1,4 @@
--- `offer::put_message` meets its contract: its three writes are the message. Assumes nothing.
+-- `offer::put_message` meets its contract: its three writes are the message.
 use native.Mathlib.Omega.{arith}
 use borrow.Author.Needs.{needs}
 use Rattle.offer.proofs.Facts.{readable, count-fits, end-fits}

@@ -1,4 +1,4 @@
--- The call by itself, by its checks. Assumes nothing.
+-- The call by itself, by its checks.
 use Prim.Native.Nat.{ℕ, _≤_}
 use mathlib.Core.Path.{_≡_, refl}
 use mathlib.Core.Bool.{Bool, true, false, and-eq-true-iff}

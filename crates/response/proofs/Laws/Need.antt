@@ -1,4 +1,4 @@
--- Laws of `ceil`, `work`, `need` and `start`. Assumes nothing.
+-- Laws of `ceil`, `work`, `need` and `start`.
 use Prim.Native.Nat.{ℕ, zero, suc, _+_, _-_, _*_, _≤_, _<_}
 use mathlib.Core.Path.{_≡_, refl}
 use mathlib.Core.List.{List, [], _∷_}

@@ -1,5 +1,5 @@
 -- A table as numbers, read from the front: what is left from place `at` on is a row and then what is left from at + 3
--- on, or nothing. The loops over a table carry a fact about what is left. Assumes nothing.
+-- on, or nothing. The loops over a table carry a fact about what is left.
 use Prim.Native.Nat.{ℕ, suc, _+_, _*_, _/_, _≤_, _<_}
 use mathlib.Core.Path.{_≡_, refl, ap, _∙_}
 use mathlib.Core.List.{List, [], _∷_}

@@ -1,4 +1,4 @@
--- Every answer that `response` gives is right: `response-right`. Assumes nothing.
+-- Every answer that `response` gives is right: `response-right`.
 use Prim.Native.Nat.{ℕ, zero, suc, _+_, _-_, _≤_, _<_}
 use mathlib.Core.Path.{_≡_, refl, ap, sym, _∙_, subst}
 use mathlib.Core.Logic.{_≢_}

@@ -1,5 +1,4 @@
 -- `response::is_askable` meets its contract: the checks passed so far hold, so the next one decides.
--- Assumes nothing.
 use Prim.Native.Nat.{ℕ}
 use mathlib.Core.Path.{_≡_, sym, _∙_, ap}
 use mathlib.Core.Bool.{true}

@@ -1,5 +1,4 @@
 -- `response::need` meets its contract: after each turn the sum and what the rows left ask for are the whole need.
--- Assumes nothing.
 use Prim.Native.Nat.{_-_, _*_, _≤_}
 use mathlib.Core.Path.{refl}
 use native.Mathlib.Nat.{le-refl, lt-of-le-of-lt, add-le-add, mul-le-mul, div-le-self}

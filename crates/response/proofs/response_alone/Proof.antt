@@ -1,5 +1,4 @@
 -- `response::response_alone` meets its contract: what the check says is which case of `aloneOn` holds.
--- Assumes nothing.
 use mathlib.Core.Path.{_≡_, sym, _∙_}
 use mathlib.Core.Bool.{true}
 use borrow.Author.Needs.{needs}

@@ -1,5 +1,4 @@
 -- `response::response_under` meets its contract: each turn is one trial, and the answer is what is left to try.
--- Assumes nothing.
 use Prim.Native.Nat.{suc, _-_}
 use native.Mathlib.Omega.{arith}
 use borrow.Author.Needs.{needs}

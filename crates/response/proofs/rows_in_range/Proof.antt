@@ -1,5 +1,4 @@
 -- `response::rows_in_range` meets its contract: the rows passed are in range, so what is left decides.
--- Assumes nothing.
 use Prim.Native.Nat.{_-_}
 use mathlib.Core.Path.{refl, sym}
 use native.Mathlib.Omega.{arith}

@@ -1,5 +1,4 @@
 -- `response::start` meets its contract: after each turn the length and the C of the rows left are the whole start.
--- Assumes nothing.
 use Prim.Native.Nat.{_-_}
 use mathlib.Core.Path.{refl}
 use native.Mathlib.Omega.{arith}

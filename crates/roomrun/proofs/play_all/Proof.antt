@@ -1,12 +1,12 @@
--- `roomrun::play_all` meets its contract. Assumes nothing.
+-- `roomrun::play_all` meets its contract.
 use Prim.Native.Nat.{_≤_}
 use mathlib.Core.Path.{_≡_, refl, sym, _∙_}
 use native.Mathlib.Omega.{arith}
 use borrow.Author.Needs.{needs}
 use lib.ListN.{length}
-use Rattle.listing.specs.Buffer.{bufferLength}
-use Rattle.lines.specs.Lines.{mostKept}
-use Rattle.play.specs.declared.Next.the-variants.{Line}
+use Rattle.script_listing.specs.Buffer.{bufferLength}
+use Rattle.text_lines.specs.Lines.{mostKept}
+use Rattle.script_play.specs.declared.Next.the-variants.{Line}
 use Rattle.roomrun.proofs.play_all.Statement.{statement}
 use Rattle.roomrun.proofs.play_all.Tie as tie
 

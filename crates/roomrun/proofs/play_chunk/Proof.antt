@@ -1,11 +1,11 @@
--- `roomrun::play_chunk` meets its contract: a chunk is played to its end. Assumes nothing.
+-- `roomrun::play_chunk` meets its contract: a chunk is played to its end.
 use Prim.Native.Nat.{_-_, _≤_}
 use mathlib.Core.Path.{_≡_, sym, _∙_}
 use native.Mathlib.Omega.{arith}
 use lib.ListN.{length}
-use Rattle.listing.specs.Buffer.{bufferLength}
-use Rattle.lines.specs.Lines.{mostKept}
-use Rattle.play.specs.declared.Next.the-variants.{Line}
+use Rattle.script_listing.specs.Buffer.{bufferLength}
+use Rattle.text_lines.specs.Lines.{mostKept}
+use Rattle.script_play.specs.declared.Next.the-variants.{Line}
 use Rattle.roomrun.proofs.play_chunk.Statement.{statement}
 use Rattle.roomrun.proofs.play_chunk.Tie as tie
 

@@ -1,7 +1,7 @@
--- `roomrun::play_end` meets its contract. Assumes nothing.
+-- `roomrun::play_end` meets its contract.
 use native.Mathlib.Omega.{arith}
 use borrow.Author.Needs.{needs}
-use Rattle.play.proofs.Laws.{ended-fits}
+use Rattle.script_play.proofs.Laws.{ended-fits}
 use Rattle.roomrun.proofs.play_end.Statement.{statement}
 use Rattle.roomrun.proofs.play_end.Tie as tie
 

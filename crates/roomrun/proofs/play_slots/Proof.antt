@@ -1,10 +1,10 @@
--- `roomrun::play_slots` meets its contract: a tick is played to its end. Assumes nothing.
+-- `roomrun::play_slots` meets its contract: a tick is played to its end.
 use Prim.Native.Nat.{_≤_}
 use mathlib.Core.Path.{_≡_, refl, _∙_}
 use native.Mathlib.Omega.{arith}
 use borrow.Author.Needs.{needs}
-use Rattle.listing.specs.Buffer.{bufferLength}
-use Rattle.run.specs.Listing.{pending}
+use Rattle.script_listing.specs.Buffer.{bufferLength}
+use Rattle.script_run.specs.Listing.{pending}
 use Rattle.roomrun.proofs.play_slots.Statement.{statement}
 use Rattle.roomrun.proofs.play_slots.Tie as tie
 

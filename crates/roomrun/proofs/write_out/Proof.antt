@@ -1,4 +1,4 @@
--- `roomrun::write_out` meets its contract. Assumes nothing.
+-- `roomrun::write_out` meets its contract.
 use mathlib.Core.Path.{sym}
 use borrow.Author.Needs.{needs}
 use lib.Seq.{length-take-le}

@@ -1,4 +1,4 @@
--- The answer of set-up as facts about the list and the store, and the store after it. Assumes nothing.
+-- The answer of set-up as facts about the list and the store, and the store after it.
 use Prim.Native.Nat.{ℕ, _*_, _≤_, _<_}
 use mathlib.Core.Path.{_≡_, refl, sym, _∙_}
 use mathlib.Core.Bool.{Bool, true, false}
@@ -9,15 +9,15 @@ use borrow.Author.Tests.{le-leb, lt-leb, leb-true, leb-false}
 use Rattle.kinds.specs.Ranges.{inRangeLinks, mostLinks}
 use Rattle.kinds.specs.Checks.{linkPasses}
 use Rattle.kinds.proofs.Laws.{within-true}
-use Rattle.room.specs.Folds.{firstNot}
-use Rattle.room.specs.Layout.{Store, Long, storeLength, fromOf, toOf, horizonOf, bufferOf}
-use Rattle.room.specs.Sound.{longEnough}
-use Rattle.room.proofs.Laws.Folds.{every-at}
+use Rattle.folds.specs.Folds.{firstNot}
+use Rattle.store.specs.Layout.{Store, Long, storeLength, fromOf, toOf, horizonOf, bufferOf}
+use Rattle.store.specs.Sound.{longEnough}
+use Rattle.folds.proofs.Folds.{every-at}
 use Rattle.setup.specs.declared.SetUp.the-variants.{Ready, Refused}
-use Rattle.list.proofs.Laws.Links.{passes-at, pass-whole}
-use Rattle.fresh.proofs.Laws.Fresh.{fresh-from, fresh-to, fresh-horizon, fresh-buffer}
-use Rattle.list.specs.List.{linksIn, fromIn, toIn, horizonIn, bufferIn, linkPassesAt, linksPass}
-use Rattle.fresh.specs.Fresh.{freshStore}
+use Rattle.setup_list.proofs.Laws.Links.{passes-at, pass-whole}
+use Rattle.setup_fresh.proofs.Laws.Fresh.{fresh-from, fresh-to, fresh-horizon, fresh-buffer}
+use Rattle.setup_list.specs.List.{linksIn, fromIn, toIn, horizonIn, bufferIn, linkPassesAt, linksPass}
+use Rattle.setup_fresh.specs.Fresh.{freshStore}
 use Rattle.setup.specs.SetUp.{setUpAnswer, setUpStore}
 
 -- what set-up accepts: "links 1 to 16", each of which passes, and a store that is long enough

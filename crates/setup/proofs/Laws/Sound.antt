@@ -1,4 +1,4 @@
--- Set-up leaves a sound store, whatever the lent numbers were. Assumes nothing.
+-- Set-up leaves a sound store, whatever the lent numbers were.
 use Prim.Native.Nat.{ℕ, _≤_, _<_}
 use mathlib.Core.Path.{_≡_}
 use mathlib.Core.Bool.{true}
@@ -6,15 +6,15 @@ use mathlib.Core.List.{List}
 use native.Mathlib.Omega.{arith}
 use Rattle.kinds.specs.Ranges.{mostLinks}
 use Rattle.kinds.proofs.Laws.{link-bounds}
-use Rattle.room.specs.Layout.{Store, linksOf, fromOf, toOf, horizonOf, bufferOf, rowsOf}
-use Rattle.room.specs.Sound.{rowReservedOf, soundOf}
-use Rattle.room.proofs.Laws.Folds.{sum-none}
-use Rattle.room.proofs.Laws.Sound.{Counts, LinkIs, RowsAre, Sound, is-sound}
+use Rattle.store.specs.Layout.{Store, linksOf, fromOf, toOf, horizonOf, bufferOf, rowsOf}
+use Rattle.store.specs.Sound.{rowReservedOf, soundOf}
+use Rattle.folds.proofs.Folds.{sum-none}
+use Rattle.store.proofs.Laws.Sound.{Counts, LinkIs, RowsAre, Sound, is-sound}
 use Rattle.setup.specs.declared.SetUp.the-variants.{Ready}
-use Rattle.list.specs.List.{linksIn}
-use Rattle.fresh.specs.Fresh.{freshStore}
+use Rattle.setup_list.specs.List.{linksIn}
+use Rattle.setup_fresh.specs.Fresh.{freshStore}
 use Rattle.setup.specs.SetUp.{setUpAnswer, setUpStore}
-use Rattle.fresh.proofs.Laws.Fresh.{fresh-long, fresh-links, fresh-channels, fresh-clock, fresh-rows}
+use Rattle.setup_fresh.proofs.Laws.Fresh.{fresh-long, fresh-links, fresh-channels, fresh-clock, fresh-rows}
 use Rattle.setup.proofs.Laws.Answer.{Accepted, ready-accepted, ready-store, accepted-some, accepted-few, stored-link}
 
 module _ (w : Store) (numbers : List ℕ) (a : Accepted w numbers) where

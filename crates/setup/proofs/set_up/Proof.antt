@@ -1,6 +1,5 @@
 -- `setup::set_up` meets its contract: the checks passed so far hold, so the next one decides; past the last one set-up is
 -- accepted, and what was written is the fresh store.
--- Assumes nothing.
 use Prim.Native.Nat.{ℕ, _*_, _≤_}
 use mathlib.Core.Path.{_≡_, sym, _∙_, ap}
 use mathlib.Core.Bool.{true}
@@ -11,10 +10,10 @@ use borrow.Author.Needs.{needs}
 use borrow.Author.Tests.{not-true, not-false}
 use Rattle.kinds.specs.Ranges.{inRangeLinks, mostLinks}
 use Rattle.kinds.proofs.Laws.{within-true}
-use Rattle.list.specs.List.{linksIn, linksPass}
-use Rattle.list.proofs.Laws.Links.{pass-whole}
+use Rattle.setup_list.specs.List.{linksIn, linksPass}
+use Rattle.setup_list.proofs.Laws.Links.{pass-whole}
 use Rattle.setup.proofs.Laws.Answer.{Accepted}
-use Rattle.list.proofs.Steps.{none-bad}
+use Rattle.setup_list.proofs.Steps.{none-bad}
 use Rattle.setup.proofs.Steps.{ends-count, ends-link, ends-short, ends-ready}
 use Rattle.setup.proofs.set_up.Statement.{statement}
 use Rattle.setup.proofs.set_up.Tie as tie

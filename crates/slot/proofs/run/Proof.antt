@@ -1,10 +1,9 @@
 -- `slot::run` meets its contract: a slot that runs reports its sends and moves the packets on, a refused one does neither.
--- Assumes nothing.
 use mathlib.Core.Path.{_≡_, sym, _∙_}
 use borrow.Author.Needs.{needs}
 use lib.ListN.{length}
-use Rattle.traffic.specs.declared.Turn.the-variants.{Ran}
-use Rattle.traffic.specs.Slot.{slotTurn}
+use Rattle.slot_rules.specs.declared.Turn.the-variants.{Ran}
+use Rattle.slot_rules.specs.Slot.{slotTurn}
 use Rattle.slot.proofs.Laws.{ran-sound, ran-before-end, ran-room, ran-picks, ends-refused, ends-ran}
 use Rattle.slot.proofs.run.Statement.{statement}
 use Rattle.slot.proofs.run.Tie as tie

@@ -1,4 +1,4 @@
--- `slot::slot` meets its contract: the part of the output that is given back is the sends. Assumes nothing.
+-- `slot::slot` meets its contract: the part of the output that is given back is the sends.
 use native.Mathlib.Omega.{arith}
 use borrow.Author.Needs.{needs}
 use lib.ListN.{length}

@@ -1,5 +1,5 @@
 -- Counting: sums that are zero but at one number, sums over two numbers in either order, and a sum that is as large as it can
--- be exactly if each of its parts is. Assumes nothing.
+-- be exactly if each of its parts is.
 use Prim.Native.Nat.{ℕ, zero, suc, _+_, _≤_, _<_}
 use mathlib.Core.Path.{_≡_, refl, sym, ap, _∙_}
 use mathlib.Core.Bool.{Bool, true, false, true≢false, or-false}
@@ -7,8 +7,8 @@ use native.Mathlib.Omega.{arith}
 use lib.Dec.{eqb}
 use borrow.Author.Tests.{eq-eqb, ne-eqb}
 use Rattle.kinds.proofs.Laws.{never}
-use Rattle.room.specs.Folds.{every, some, sumTo}
-use Rattle.room.proofs.Laws.Folds.{below, every-at, some-false, sum-same}
+use Rattle.folds.specs.Folds.{every, some, sumTo}
+use Rattle.folds.proofs.Folds.{below, every-at, some-false, sum-same}
 
 -- 1 for each number of which f holds
 abbrev pub unit : Bool → ℕ

@@ -1,4 +1,4 @@
--- A link's tests on the numbers that the code has read. Assumes nothing.
+-- A link's tests on the numbers that the code has read.
 use Prim.Native.Nat.{ℕ}
 use mathlib.Core.Path.{_≡_, sym, _∙_}
 use mathlib.Core.Bool.{Bool, false}
@@ -8,8 +8,8 @@ use Rattle.kinds.specs.declared.Link.{Link}
 use Rattle.kinds.specs.declared.CheckedLink.{CheckedLink}
 use Rattle.kinds.specs.declared.CheckedLink.the-variants as link
 use Rattle.kinds.proofs.Laws.{good-link, refused-link}
-use Rattle.room.specs.Layout.{Store, fromOf, toOf, horizonOf, bufferOf, rowsOf}
-use Rattle.room.specs.Sound.{linkFits}
+use Rattle.store.specs.Layout.{Store, fromOf, toOf, horizonOf, bufferOf, rowsOf}
+use Rattle.store.specs.Sound.{linkFits}
 
 -- what the constructor answers to a link's numbers
 abbrev pub checkedLink : Store → (l : ℕ) → CheckedLink

@@ -1,5 +1,5 @@
 -- Rows that stand and are in order: each is one place of a route, and no two are the same. So there are as many rows as
--- places exactly if every place is a row. Assumes nothing.
+-- places exactly if every place is a row.
 use Prim.Native.Nat.{ℕ, zero, suc, _+_, _*_, _<_}
 use mathlib.Core.Path.{_≡_, refl, sym, ap, _∙_}
 use mathlib.Core.Bool.{true, and-eq-true-iff}
@@ -10,12 +10,12 @@ use lib.Dec.{eqb}
 use borrow.Author.Tests.{eqb-true, eq-eqb, ne-eqb}
 use Rattle.kinds.specs.Ranges.{mostChannels}
 use Rattle.kinds.proofs.Laws.{never}
-use Rattle.room.specs.Layout.{Store, linksOf, channelsOf, rowsOf, rowChannelOf, rowPlaceOf, hopsOf, routeOf}
-use Rattle.room.specs.Folds.{every, sumTo}
-use Rattle.room.specs.Sound.{rowDelayOf, rowsSound, rowIs, listed, allListed}
-use Rattle.room.specs.Ranged.{Fit}
-use Rattle.room.proofs.Laws.Folds.{below, every-at}
-use Rattle.room.proofs.Laws.Sound.{Before, RowsAre, rows-are, fit-counts, fit-channel}
+use Rattle.store.specs.Layout.{Store, linksOf, channelsOf, rowsOf, rowChannelOf, rowPlaceOf, hopsOf, routeOf}
+use Rattle.folds.specs.Folds.{every, sumTo}
+use Rattle.store.specs.Sound.{rowDelayOf, rowsSound, rowIs, listed, allListed}
+use Rattle.store.specs.Ranged.{Fit}
+use Rattle.folds.proofs.Folds.{below, every-at}
+use Rattle.store.proofs.Laws.Sound.{Before, RowsAre, rows-are, fit-counts, fit-channel}
 use Rattle.sound.proofs.Laws.Counting.{count, unit, sum-zero, sum-only, count-some, count-full, count-less}
 use Rattle.sound.proofs.Laws.Counting.{sums-equal, all-rows}
 

@@ -1,13 +1,13 @@
--- The whole of soundness, in the order in which the code goes through its parts. Assumes nothing.
+-- The whole of soundness, in the order in which the code goes through its parts.
 use Prim.Native.Nat.{_<_}
 use mathlib.Core.Path.{_≡_}
 use mathlib.Core.Bool.{Bool, true, false}
 use lib.ListN.{length}
 use borrow.Author.Tests.{le-leb, lt-leb}
-use Rattle.room.specs.Layout.{Store, Long, storeLength, linksOf, channelsOf}
-use Rattle.room.specs.Folds.{every}
-use Rattle.room.specs.Sound.{countsFit, linkFits, channelSound, rowsSound, allListed, soundOf}
-use Rattle.room.specs.Ranged.{Fit}
+use Rattle.store.specs.Layout.{Store, Long, storeLength, linksOf, channelsOf}
+use Rattle.folds.specs.Folds.{every}
+use Rattle.store.specs.Sound.{countsFit, linkFits, channelSound, rowsSound, allListed, soundOf}
+use Rattle.store.specs.Ranged.{Fit}
 
 -- how far the code has come: the length and the counts; the links; `Fit`, the channels; the rows
 abbrev pub Counted : Store → Type 0

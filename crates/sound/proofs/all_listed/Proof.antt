@@ -1,4 +1,4 @@
--- `sound::all_listed` meets its contract: there are as many rows as places exactly if every place is a row. Assumes nothing.
+-- `sound::all_listed` meets its contract: there are as many rows as places exactly if every place is a row.
 use Rattle.sound.proofs.Laws.Listed.{counted}
 use borrow.Author.Needs.{needs}
 use Rattle.sound.proofs.all_listed.Statement.{statement}

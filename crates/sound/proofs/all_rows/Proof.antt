@@ -1,12 +1,12 @@
--- `sound::all_rows` meets its contract: the sum of those passed. Assumes nothing.
+-- `sound::all_rows` meets its contract: the sum of those passed.
 use Prim.Native.Nat.{_-_, _≤_}
 use native.Mathlib.Omega.{arith}
 use borrow.Author.Needs.{needs}
 use Rattle.kinds.specs.Ranges.{mostRows}
-use Rattle.room.specs.Layout.{linksOf, rowsOf}
-use Rattle.room.proofs.Laws.Sound.{fit-counts}
-use Rattle.rows.proofs.Laws.There.{link-most, rows-most}
-use Rattle.room.proofs.Laws.Adding.{Adding, adding-none, adding-more, adding-fits, adding-done}
+use Rattle.store.specs.Layout.{linksOf, rowsOf}
+use Rattle.store.proofs.Laws.Sound.{fit-counts}
+use Rattle.sound_rows.proofs.Laws.There.{link-most, rows-most}
+use Rattle.folds.proofs.Adding.{Adding, adding-none, adding-more, adding-fits, adding-done}
 use Rattle.sound.proofs.all_rows.Statement.{statement}
 use Rattle.sound.proofs.all_rows.Tie as tie
 

@@ -1,12 +1,12 @@
--- `sound::channels_sound` meets its contract: the channels passed are sound. Assumes nothing.
+-- `sound::channels_sound` meets its contract: the channels passed are sound.
 use Prim.Native.Nat.{_-_}
 use mathlib.Core.Path.{sym}
 use native.Mathlib.Omega.{arith}
 use borrow.Author.Needs.{needs}
-use Rattle.room.specs.Layout.{channelsOf}
-use Rattle.room.specs.Sound.{channelSound}
-use Rattle.room.proofs.Laws.Folds.{Passing, passing-none, passing-more, passing-done, every-false}
-use Rattle.room.proofs.Laws.Sound.{counts-are}
+use Rattle.store.specs.Layout.{channelsOf}
+use Rattle.store.specs.Sound.{channelSound}
+use Rattle.folds.proofs.Folds.{Passing, passing-none, passing-more, passing-done, every-false}
+use Rattle.store.proofs.Laws.Sound.{counts-are}
 use Rattle.kinds.proofs.Laws.{refuted, held}
 use Rattle.sound.proofs.channels_sound.Statement.{statement}
 use Rattle.sound.proofs.channels_sound.Tie as tie

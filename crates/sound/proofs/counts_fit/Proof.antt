@@ -1,7 +1,7 @@
--- `sound::counts_fit` meets its contract, test by test. Assumes nothing.
+-- `sound::counts_fit` meets its contract, test by test.
 use mathlib.Core.Path.{_≡_, ap, _∙_}
 use Rattle.kinds.specs.Ranges.{inRangeLinks, inRangeChannels, isSlot}
-use Rattle.room.specs.Layout.{linksOf, channelsOf}
+use Rattle.store.specs.Layout.{linksOf, channelsOf}
 use Rattle.kinds.proofs.Laws.{fails, passes}
 use borrow.Author.Needs.{needs}
 use Rattle.sound.proofs.counts_fit.Statement.{statement}

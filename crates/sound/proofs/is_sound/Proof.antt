@@ -1,5 +1,5 @@
--- `sound::is_sound` meets its contract, part by part. Assumes nothing.
-use Rattle.room.specs.Ranged.{Fit}
+-- `sound::is_sound` meets its contract, part by part.
+use Rattle.store.specs.Ranged.{Fit}
 use Rattle.kinds.proofs.Laws.{refuted, held}
 use Rattle.sound.proofs.Laws.Whole.{Counted, Linked, Filled, too-short, bad-counts, bad-links, bad-channels, bad-rows, fit, lists}
 use borrow.Author.Needs.{needs}

@@ -1,4 +1,4 @@
--- `sound::link_fits` meets its contract: the constructor of a link says whether it passes. Assumes nothing.
+-- `sound::link_fits` meets its contract: the constructor of a link says whether it passes.
 use mathlib.Core.Path.{_≡_, _∙_}
 use Rattle.sound.proofs.Laws.Links.{checkedLink, link-read, no-link, its-rows}
 use borrow.Author.Needs.{needs}

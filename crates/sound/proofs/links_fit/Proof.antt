@@ -1,12 +1,12 @@
--- `sound::links_fit` meets its contract: the links passed fit. Assumes nothing.
+-- `sound::links_fit` meets its contract: the links passed fit.
 use Prim.Native.Nat.{_-_}
 use mathlib.Core.Path.{sym}
 use native.Mathlib.Omega.{arith}
 use borrow.Author.Needs.{needs}
-use Rattle.room.specs.Layout.{linksOf}
-use Rattle.room.specs.Sound.{linkFits}
-use Rattle.room.proofs.Laws.Folds.{Passing, passing-none, passing-more, passing-done, every-false}
-use Rattle.room.proofs.Laws.Sound.{counts-are}
+use Rattle.store.specs.Layout.{linksOf}
+use Rattle.store.specs.Sound.{linkFits}
+use Rattle.folds.proofs.Folds.{Passing, passing-none, passing-more, passing-done, every-false}
+use Rattle.store.proofs.Laws.Sound.{counts-are}
 use Rattle.kinds.proofs.Laws.{refuted, held}
 use Rattle.sound.proofs.links_fit.Statement.{statement}
 use Rattle.sound.proofs.links_fit.Tie as tie

@@ -1,4 +1,4 @@
--- `kinds::Channel::new` meets its contract, by whether the check passes. Assumes nothing.
+-- `kinds::Channel::new` meets its contract, by whether the check passes.
 use mathlib.Core.Path.{sym, _∙_}
 use Rattle.kinds.proofs.Laws.{channel-good, channel-refused}
 use borrow.Author.Needs.{needs}

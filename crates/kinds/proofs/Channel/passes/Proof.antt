@@ -1,4 +1,4 @@
--- `kinds::Channel::passes` meets its contract: test by test. Assumes nothing.
+-- `kinds::Channel::passes` meets its contract: test by test.
 use Rattle.kinds.proofs.Laws.{stops, goes}
 use borrow.Author.Needs.{needs}
 use Rattle.kinds.proofs.Channel.passes.Statement.{statement}

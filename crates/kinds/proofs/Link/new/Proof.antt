@@ -1,4 +1,4 @@
--- `kinds::Link::new` meets its contract, by whether the check passes. Assumes nothing.
+-- `kinds::Link::new` meets its contract, by whether the check passes.
 use mathlib.Core.Path.{sym, _∙_}
 use Rattle.kinds.proofs.Laws.{link-good, link-refused}
 use borrow.Author.Needs.{needs}

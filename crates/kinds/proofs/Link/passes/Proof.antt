@@ -1,4 +1,4 @@
--- `kinds::Link::passes` meets its contract: test by test. Assumes nothing.
+-- `kinds::Link::passes` meets its contract: test by test.
 use mathlib.Core.Path.{refl, ap}
 use mathlib.Core.Bool.{not}
 use borrow.Author.Tests.{le-leb, lt-leb, ne-eqb, eq-eqb}

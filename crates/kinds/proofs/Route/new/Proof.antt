@@ -1,4 +1,4 @@
--- `kinds::Route::new` meets its contract, by whether the check passes. Assumes nothing.
+-- `kinds::Route::new` meets its contract, by whether the check passes.
 use mathlib.Core.Path.{sym, _∙_}
 use Rattle.kinds.proofs.Laws.{route-good, route-refused}
 use borrow.Author.Needs.{needs}

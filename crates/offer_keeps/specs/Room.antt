@@ -1,0 +1,16 @@
+-- The second 17 of an offer, "the call would leave one that is not" sound, as the code looks at it. proofs/ shows that this is
+-- the same.
+use Prim.Native.Nat.{ℕ, _+_, _-_}
+use mathlib.Core.Bool.{Bool, _&&_}
+use lib.Dec.{leb}
+use Rattle.kinds.specs.Ranges.{isNumber}
+use Rattle.store.specs.Layout.{Store, ring, messagesOf}
+use Rattle.store.specs.Amounts.{reservedOf, heldOf}
+use Rattle.store.specs.Sound.{inOrder}
+
+-- One message more may be counted, and kept: at most 22 are undelivered before it. And its packets are held within what is
+-- reserved.
+abbrev pub hasRoom : Store → (c packets : ℕ) → Bool
+hasRoom w c packets =
+    isNumber (messagesOf w c + 1)
+    && (inOrder w c (messagesOf w c) (ring - 2) && leb (heldOf w c 0 + packets) (reservedOf w c 0))

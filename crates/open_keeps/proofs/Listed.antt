@@ -1,0 +1,36 @@
+-- After an accepted open each place of each route, old or new, has its row.
+use Prim.Native.Nat.{ℕ, _<_}
+use native.Mathlib.Omega.{arith}
+use Rattle.store.specs.Layout.{Store, channelsOf, hopsOf, routeOf}
+use Rattle.store.proofs.Laws.Sound.{RowFor}
+use Rattle.open_rules.specs.Request.{Request, hops}
+use Rattle.store_same.proofs.Same.{hops-same, route-same}
+use Rattle.open_keeps.proofs.Kept.{Opened, was-sound, links-kept, record-kept}
+use Rattle.open_keeps.proofs.Away.{away-row}
+use Rattle.open_keeps.proofs.Join.{join-old, join-new}
+use Rattle.open_keeps.proofs.Each.{each-link, each-channel}
+
+module _ {w w′ : Store} {q : Request} {d : ℕ → ℕ} (o : Opened w w′ q d) where
+  -- a link keeps each row that it has
+  row-kept : (c j : ℕ) → c < channelsOf w → j < hopsOf w c → RowFor w′ c j (routeOf w c j)
+  row-kept c j h i =
+      each-link o (λ l. RowFor w c j l → RowFor w′ c j l)
+      (λ k m. join-old o k m)
+      (λ l m a. away-row o l m a)
+      (routeOf w c j)
+      (rw (links-kept o) (was-sound o .channel c h .route .known j i))
+      (was-sound o .row c j h i)
+
+  pub all-listed : (c : ℕ) → c < channelsOf w′ → (j : ℕ) → j < hopsOf w′ c → RowFor w′ c j (routeOf w′ c j)
+  all-listed = each-channel o (λ c. (j : ℕ) → j < hopsOf w′ c → RowFor w′ c j (routeOf w′ c j)) old new
+    where
+      old : (c : ℕ) → c < channelsOf w → (j : ℕ) → j < hopsOf w′ c → RowFor w′ c j (routeOf w′ c j)
+      old c h j i =
+          let same = record-kept o c h in
+          let m : j < hopsOf w c = rw (hops-same same) at i in
+          rw (route-same same j (omega (arith, was-sound o .channel c h .hops-most))) (row-kept c j h m)
+
+      new : (j : ℕ) → j < hopsOf w′ (channelsOf w) → RowFor w′ (channelsOf w) j (routeOf w′ (channelsOf w) j)
+      new j i =
+          let m : j < hops q = rw (o .after .hops-is) at i in
+          rw (o .after .route-is j m) (join-new o j m)

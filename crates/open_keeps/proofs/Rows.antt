@@ -1,0 +1,84 @@
+-- A link's rows as a list of entries: what a sound link asks of them, and that they still have it when a row joins them in its
+-- place.
+use Prim.Native.Nat.{ℕ, suc, _≤_, _<_}
+use mathlib.Core.Path.{_≡_, sym, _∙_, ap, subst, subst₂}
+use native.Mathlib.Omega.{arith}
+use Rattle.folds.specs.Folds.{sumTo}
+use Rattle.store.specs.Layout.{Store, channelsOf, bufferOf, rowsOf, rowChannelOf, rowPlaceOf, hopsOf, routeOf, delayOf}
+use Rattle.store.specs.Amounts.{heldOf, reservedOf}
+use Rattle.store.proofs.Laws.Sound.{RowsAre, RowFor, Before}
+use Rattle.open_keeps.proofs.Insert.{Inserted, inserted-each, inserted-pairs}
+
+-- what a row says: a channel, and a place of its route
+abbrev pub Entry : Type 0
+Entry = ℕ × ℕ
+
+abbrev pub entry : Store → (l k : ℕ) → Entry
+entry w l k = (rowChannelOf w l k, rowPlaceOf w l k)
+
+pub entry-is : {c c′ j j′ : ℕ} → c ≡ c′ → j ≡ j′ → _≡_ {A = Entry} (c, j) (c′, j′)
+entry-is e f = cc
+
+abbrev pub entryDelay : Store → Entry → ℕ
+entryDelay w e = delayOf w (e .0) (e .1)
+
+abbrev pub entryReserved : Store → Entry → ℕ
+entryReserved w e = reservedOf w (e .0) (e .1)
+
+-- link l is there
+pub record Here (w : Store) (l : ℕ) (e : Entry) : Type 0 where
+  pub channel : e .0 < channelsOf w
+  pub place : e .1 < hopsOf w (e .0)
+  pub here : routeOf w (e .0) (e .1) ≡ l
+
+abbrev pub Holds : Store → Entry → Type 0
+Holds w e = heldOf w (e .0) (e .1) ≤ entryReserved w e
+
+abbrev pub Follows : Store → Entry → Entry → Type 0
+Follows w e f = Before (entryDelay w e) (e .0) (entryDelay w f) (f .0)
+
+-- n entries may be link l's rows
+pub record Rows (w : Store) (l n : ℕ) (f : ℕ → Entry) : Type 0 where
+  pub here : (k : ℕ) → k < n → Here w l (f k)
+  pub holds : (k : ℕ) → k < n → Holds w (f k)
+  pub sorted : (k : ℕ) → suc k < n → Follows w (f k) (f (suc k))
+
+module _ {w : Store} {l : ℕ} where
+  pub rows-here : RowsAre w l → Rows w l (rowsOf w l) (entry w l)
+  rows-here r = record {
+    here = λ k h. let i = r .rows k h in record { channel = i .channel; place = i .place; here = i .here };
+    holds = r .holds;
+    sorted = r .sorted;
+  }
+
+  pub here-rows : {n : ℕ} → rowsOf w l ≡ n → Rows w l n (entry w l)
+      → sumTo (λ k. entryReserved w (entry w l k)) n ≤ bufferOf w l → RowsAre w l
+  here-rows e r fits = record {
+    rows = λ k h. let i = r .here k (rw e at h) in record { channel = i .channel; place = i .place; here = i .here };
+    sorted = λ k h. r .sorted k (rw e at h);
+    holds = λ k h. r .holds k (rw e at h);
+    fits = rw e fits;
+  }
+
+  -- the same entries
+  pub rows-same : {n : ℕ} {f g : ℕ → Entry} → ((k : ℕ) → k < n → g k ≡ f k) → Rows w l n f → Rows w l n g
+  rows-same same r = record {
+    here = λ k h. subst (Here w l) (sym (same k h)) (r .here k h);
+    holds = λ k h. subst (Holds w) (sym (same k h)) (r .holds k h);
+    sorted = λ k h. subst₂ (Follows w) (sym (same k (omega arith))) (sym (same (suc k) h)) (r .sorted k h);
+  }
+
+  -- one more, behind all that it follows and before all that follow it
+  pub rows-joined : {n at : ℕ} {f g : ℕ → Entry} {e : Entry} → Inserted f g n at e → Here w l e → Holds w e
+      → ((k : ℕ) → suc k ≡ at → Follows w (f k) e) → (at < n → Follows w e (f at)) → Rows w l n f → Rows w l (suc n) g
+  rows-joined i here holds above below r = record {
+    here = inserted-each i (Here w l) here (r .here);
+    holds = inserted-each i (Holds w) holds (r .holds);
+    sorted = inserted-pairs i (Follows w) (r .sorted) above below;
+  }
+
+-- a row of w that w′ has too
+pub row-again : {w w′ : Store} {c j l : ℕ} (r : RowFor w c j l) (m : ℕ) → m < rowsOf w′ l → entry w′ l m ≡ entry w l (r .at)
+    → RowFor w′ c j l
+row-again r m h e =
+    record { at = m; inside = h; channel = ap (λ x. x .0) e ∙ r .channel; place = ap (λ x. x .1) e ∙ r .place }

@@ -1,0 +1,72 @@
+-- A link of a sound store, its rows and its buffer, as the code reads them.
+use Prim.Native.Nat.{ℕ, _+_, _≤_, _<_}
+use mathlib.Core.Path.{_≡_}
+use mathlib.Core.Bool.{true, false}
+use mathlib.Core.List.{List}
+use native.Mathlib.Nat.{zero-add, le-trans}
+use native.Mathlib.Omega.{arith}
+use borrow.Author.Tests.{ltb-true, le-leb, lt-leb}
+use Rattle.kinds.specs.Ranges.{mostLinks, mostRows, mostBuffer}
+use Rattle.store.specs.Layout.{Store, numberAt, linksOf, bufferOf, rowsOf, rowChannelOf, rowPlaceOf, hopsOf}
+use Rattle.folds.specs.Folds.{every}
+use Rattle.store.specs.Route.{from, exists}
+use Rattle.store.specs.Amounts.{reservedOf}
+use Rattle.store.specs.Sound.{soundOf, rowReservedOf}
+use Rattle.store.specs.Ranged.{Ranged}
+use Rattle.folds.proofs.Folds.{every-at, sum-part}
+use Rattle.store.proofs.Laws.Sound.{Sound, RowIs, sound-is, sound-fit, fit-ranged}
+use Rattle.open_rules.specs.Shares.{takenOf, fitsBuffer}
+
+module _ (w : Store) (e : soundOf w ≡ true) (l : ℕ) (h : l < linksOf w) where
+  s : Sound w
+  s = sound-is w e
+
+  pub link-most : l < mostLinks
+  link-most = omega (arith, s .counts .links-most)
+
+  pub rows-most : rowsOf w l ≤ mostRows
+  rows-most = s .link l h .rows-most
+
+  pub taken-most : takenOf w l ≤ mostBuffer
+  taken-most = le-trans (s .rows l h .fits) (s .link l h .good .buffer-most)
+
+-- Row k as it was read, and what is reserved for it.
+pub record Row (w : Store) (l k c j : ℕ) : Type 0 where
+  pub sound : soundOf w ≡ true
+  pub there : l < linksOf w
+  pub below : k < rowsOf w l
+  pub its-channel : c ≡ rowChannelOf w l k
+  pub its-place : j ≡ rowPlaceOf w l k
+
+module _ {w : Store} {l k c j : ℕ} (r : Row w l k c j) where
+  stands : RowIs w l k
+  stands = sound-is w (r .sound) .rows l (r .there) .rows k (r .below)
+
+  pub row-ranged : Ranged w c
+  row-ranged = rw (r .its-channel) (fit-ranged w (sound-fit w (r .sound)) (rowChannelOf w l k) (stands .channel))
+
+  pub row-place : j < hopsOf w c
+  row-place = rw (r .its-channel, r .its-place) (stands .place)
+
+  module _ {v : ℕ} (e : v ≡ reservedOf w c j) where
+    pub row-reserved : v ≡ rowReservedOf w l k
+    row-reserved = rw (r .its-channel, r .its-place) at e
+
+    pub row-most : v ≤ mostBuffer
+    row-most =
+        rw row-reserved (le-trans (sum-part (rowReservedOf w l) (rowsOf w l) k (r .below)) (taken-most w (r .sound) l (r .there)))
+
+-- A link of a lent route, and its buffer held against what would be reserved on it.
+module _ (w : Store) (route : List ℕ) where
+  pub link-exists : (n : ℕ) → every (exists w (from route 0)) n ≡ true → (j : ℕ) → j < n → numberAt route j < linksOf w
+  link-exists n e j h =
+      let k : from route 0 j < linksOf w = ltb-true _ _ (every-at (exists w (from route 0)) n e j h) in
+      rw (zero-add j) at k
+
+  module _ (reserved : List ℕ) (j : ℕ)
+      {t b : ℕ} (et : t ≡ takenOf w (numberAt route j)) (eb : b ≡ bufferOf w (numberAt route j)) where
+    pub exceeded : b < t + numberAt reserved j → fitsBuffer w (from route 0) (numberAt reserved) j ≡ false
+    exceeded h = simp (zero-add j) (lt-leb _ _ (rw (et, eb) at h))
+
+    pub not-exceeded : t + numberAt reserved j ≤ b → fitsBuffer w (from route 0) (numberAt reserved) j ≡ true
+    not-exceeded h = simp (zero-add j) (le-leb _ _ (rw (et, eb) at h))

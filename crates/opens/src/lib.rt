@@ -1,2 +1,0 @@
-// No code: what set-up and an accepted open do to the plan and the traffic that crate `view` sees in a store. The theorems are in
-// proofs/.

@@ -1,0 +1,74 @@
+-- The log after a slot: with what the slot has sent it is one again.
+use Prim.Native.Nat.{ℕ, _+_, _-_, _<_}
+use mathlib.Core.Path.{_≡_, refl, ap, sym, _∙_}
+use mathlib.Core.Bool.{Bool, true, false}
+use mathlib.Core.List.{List, [], _∷_, _++_, map, map-append, append-nil}
+use native.Mathlib.Numerals.{add-one}
+use native.Mathlib.Omega.{arith}
+use lib.ListN.{take}
+use Rattle.schedule.proofs.Lists.{every-append}
+use Rattle.store.specs.Layout.{Store, channelsOf, cOf, pOf, hopsOf, routeOf, sentOf}
+use Rattle.store_same.proofs.Settled.{channels-same}
+use Rattle.slot_rules.specs.Head.{messageOf}
+use Rattle.slot_rules.specs.Slot.{Send, sendAt, slotSends, moved}
+use Rattle.slot_keeps.specs.Room.{leaves}
+use Rattle.slot_keeps.proofs.Leaves.{leaving-held}
+use Rattle.slot_keeps.proofs.After.{moved-settled, sent-goes, sent-stays}
+use Rattle.promise_queue.specs.Queue.{Packet, packetsFrom}
+use Rattle.promise_queue.specs.Keep.{keep}
+use Rattle.promise_queue.proofs.Keep.{keep-append}
+use Rattle.promise_queue.proofs.Packets.{packet-next}
+use Rattle.promise_view.specs.View.{Accepted}
+use Rattle.promise_view.proofs.Seen.{Seen, Steady}
+use Rattle.promise_view.proofs.Next.{next-is}
+use Rattle.store_same.proofs.Numbers.{SameNumbers, settled-numbers}
+use Rattle.promise_queue.proofs.More.{as-long}
+use Rattle.promise_sends.specs.Sends.{isOn, nameOf}
+use Rattle.promise_sends.specs.Log.{InTime, Logged}
+use Rattle.promise_sends.proofs.Slot.{sends-on}
+use Rattle.promise_sends.proofs.Kept.{timely-kept}
+use Rattle.promise_sends.proofs.Timely.{slot-timely}
+
+-- what was sent at one place, of a log and of more behind it
+names-append : (f : Send → Bool) (log more : List Send)
+    → map nameOf (keep f (log ++ more)) ≡ map nameOf (keep f log) ++ map nameOf (keep f more)
+names-append f log more = ap (map nameOf) (keep-append f log more) ∙ map-append nameOf (keep f log) (keep f more)
+
+module _ {w : Store} {all : Accepted} (s : Seen w all) where
+  -- the packet that goes next is the channel's first that was not sent there
+  module _ (c j : ℕ) (h : c < channelsOf w) (i : j < hopsOf w c) where
+    abbrev packets : List Packet
+    packets = packetsFrom 0 0 (all c)
+
+    one-more : leaves w c j ≡ true
+        → take (sentOf w c j) packets ++ (nameOf (sendAt w (routeOf w c j) c j) ∷ []) ≡ take (sentOf w c j + 1) packets
+    one-more e =
+        let x = next-is (s .sound .channel c h) (s .told c h) j i (leaving-held (s .sound) c j h i e) in
+        let message : messageOf w c j - 1 ≡ x .n = omega (arith, x .number) in
+        rw (x .packet, message, add-one (sentOf w c j))
+        (sym (packet-next (cOf w c) (pOf w c) (all c) (s .orderly c) (x .n) (sentOf w c j) (x .inside) (x .starts) (x .ends)))
+
+    names-after : {log : List Send} → Logged w all log
+        → map nameOf (keep (isOn c (routeOf w c j)) (log ++ slotSends w)) ≡ take (sentOf (moved w) c j) packets
+    names-after {log} known =
+        names-append (isOn c (routeOf w c j)) log (slotSends w)
+        ∙ rw (known .names c j h i, sends-on (s .sound) c j h i) (go (leaves w c j) refl)
+      where
+        go : (b : Bool) → leaves w c j ≡ b
+            → take (sentOf w c j) packets ++ map nameOf (elim b [ true ↦ sendAt w (routeOf w c j) c j ∷ [] | false ↦ [] ])
+            ≡ take (sentOf (moved w) c j) packets
+        go true e = rw (sent-goes (s .sound) c j h i e) (one-more e)
+        go false e = rw (sent-stays (s .sound) c j h i e) (append-nil (take (sentOf w c j) packets))
+
+  numbers : (c : ℕ) → c < channelsOf w → SameNumbers w (moved w) c
+  numbers = settled-numbers (s .sound) (moved-settled (s .sound))
+
+  pub slot-logged : Steady w all → {log : List Send} → Logged w all log → Logged (moved w) all (log ++ slotSends w)
+  slot-logged on {log} known = record {
+    names = λ c j h i.
+        let old : c < channelsOf w = rw (channels-same (moved-settled (s .sound))) at h in
+        let place : j < hopsOf w c = rw (numbers c old .hops-are) at i in
+        rw (numbers c old .route-is j place) (names-after c j old place known);
+    timely = timely-kept numbers all all (λ c h. as-long (all c) (all c) refl) (log ++ slotSends w)
+        (every-append (InTime w all) log (slotSends w) (known .timely) (slot-timely s on));
+  }

@@ -1,0 +1,61 @@
+-- After a slot no place but the first holds more than is reserved there.
+use Prim.Native.Nat.{ℕ, suc, _+_, _-_, _/_, _≤_, _<_}
+use native.Mathlib.Omega.{arith}
+use lib.ListN.{length}
+use Rattle.schedule.specs.Messages.{ended}
+use Rattle.schedule.proofs.Times.{on-later}
+use Rattle.store.specs.Layout.{Store, channelsOf, clockOf, cOf, pOf, hopsOf, routeOf, delayOf, sentOf, horizonOf}
+use Rattle.folds.specs.Folds.{sumTo}
+use Rattle.store.specs.Amounts.{reservedOf, enteredOf, heldOf}
+use Rattle.store_same.proofs.Settled.{Settled, channel-kept}
+use Rattle.store_same.proofs.Numbers.{SameNumbers, settled-numbers}
+use Rattle.slot_rules.specs.Slot.{moved}
+use Rattle.slot_keeps.proofs.After.{moved-settled}
+use Rattle.slot_keeps.proofs.Course.{course}
+use Rattle.promise_queue.specs.Queue.{timeAt, endAfter}
+use Rattle.promise_queue.proofs.Few.{few-held}
+use Rattle.promise_view.specs.View.{Accepted}
+use Rattle.promise_view.proofs.Seen.{Seen, Steady, Near}
+use Rattle.promise_view.proofs.Counted.{sent-most}
+use Rattle.promise_view.proofs.InTime.{still-before}
+use Rattle.promise_slot.proofs.Told.{told-after}
+use Rattle.promise_slot.proofs.Steady.{links-after, counted-after}
+use Rattle.promise_slot.proofs.Kept.{near-here}
+
+-- A logical time at place j + 1 of channel c at the clock after the slot: its deadline there is still to come, and on the link
+-- before it has been within the horizon.
+abbrev InStretch : Store → (c j ℓ : ℕ) → Type 0
+InStretch w c j ℓ = (suc (clockOf w) < ℓ + delayOf w c (suc j))
+    × (ℓ < suc (clockOf w) + horizonOf w (routeOf w c j) + delayOf w c j)
+
+module _ {w : Store} {all : Accepted} (s : Seen w all) where
+  -- no more has been sent than was accepted
+  gone-most : (c j : ℕ) → c < channelsOf w → j < hopsOf w c → sentOf (moved w) c j ≤ ended 0 (all c)
+  gone-most c j h i =
+      let settled : Settled w (moved w) = moved-settled (s .sound) in
+      let same : SameNumbers w (moved w) c = settled-numbers (s .sound) settled c h in
+      sent-most (channel-kept settled (s .sound) c h (course (s .sound) c h)) (told-after s c (same .there)) j
+      (rw (same .hops-are) i)
+
+  module _ (on : Steady w all) (near : Near w all) (c j : ℕ) (h : c < channelsOf w) (i : suc j < hopsOf w c) where
+    -- a message of which a packet is held at place j + 1
+    in-stretch : (n : ℕ) → n < length (all c) → sentOf (moved w) c (suc j) < endAfter (all c) (suc n)
+        → endAfter (all c) n < sentOf (moved w) c j → InStretch w c j (timeAt (all c) n + sumTo (delayOf w c) (suc j))
+    unfolding sumTo
+    in-stretch n l above below =
+        let early : _ = near-here s c j h (omega arith) near i n l below in
+        let t : ℕ = suc (clockOf w) in
+        let due : _ = still-before s (moved w) (counted-after s on) t (links-after s on) c (suc j) n h i l above in
+        (omega (arith, due), omega (arith, early))
+
+    pub held-later : heldOf (moved w) c (suc j) ≤ reservedOf w c (suc j)
+    unfolding enteredOf reservedOf
+    held-later =
+        let p : ℕ = pOf w c in
+        let before : ℕ = horizonOf w (routeOf w c j) in
+        let few : _ = few-held (cOf w c) p (all c) (s .orderly c) (InStretch w c j) (sumTo (delayOf w c) (suc j))
+        (sentOf (moved w) c (suc j)) (sentOf (moved w) c j) (1 + (before + delayOf w c j + delayOf w c (suc j) - 2) / p)
+        (gone-most c j h (omega arith)) in-stretch
+        (λ e times apart each. on-later p e times apart (suc (clockOf w)) (delayOf w c (suc j)) before (delayOf w c j)
+        (s .sound .channel c h .good .p-least) each) in
+        omega (arith, few)

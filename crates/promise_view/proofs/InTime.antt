@@ -1,0 +1,44 @@
+-- Each message is in time: from its deadline at a place on, all its packets have been sent there.
+use Prim.Native.Nat.{ℕ, suc, _+_, _≤_, _<_}
+use native.Mathlib.Decide.{decLt}
+use native.Mathlib.Omega.{arith}
+use lib.ListN.{length}
+use Rattle.schedule.specs.Network.{Key, AllCounted, OnLinks}
+use Rattle.schedule.proofs.Network.{in-time as schedule-in-time}
+use Rattle.store.specs.Layout.{Store, channelsOf, hopsOf, delayOf, sentOf}
+use Rattle.folds.specs.Folds.{sumTo}
+use Rattle.promise_queue.specs.Queue.{timeAt, endAfter}
+use Rattle.promise_queue.proofs.Ends.{message-at}
+use Rattle.promise_view.specs.View.{planOf, Accepted, trafficOf}
+use Rattle.promise_view.proofs.Seen.{Seen}
+use Rattle.promise_view.proofs.Places.{offset-is, is-inside}
+use Rattle.promise_view.proofs.Planned.{planned}
+use Rattle.promise_view.proofs.Counted.{counted}
+
+-- with the plan of w, where w′ says how much has been sent
+module _ {w : Store} {all : Accepted} (s : Seen w all) (w′ : Store) (now : AllCounted (planOf w) (trafficOf w′ all)) (t : ℕ)
+    (on : OnLinks (planOf w) (trafficOf w′ all) t) (c j n : ℕ) (h : c < channelsOf w) (i : j < hopsOf w c)
+    (l : n < length (all c)) where
+  all-sent : timeAt (all c) n + sumTo (delayOf w c) (suc j) ≤ t → endAfter (all c) (suc n) ≤ sentOf w′ c j
+  all-sent past =
+      let k : Key = record { channel = c; place = j } in
+      let a : _ = message-at (all c) n l in
+      rw (← a .end-is) (schedule-in-time (planOf w) (planned (s .sound) (s .tables)) (trafficOf w′ all) now t on k
+      (is-inside w k h i) (a .message) (a .there) (omega (arith, a .time-is, offset-is w c (suc j))))
+
+  -- so that the deadline of one that is not wholly sent is still to come
+  pub still-before : sentOf w′ c j < endAfter (all c) (suc n) → t < timeAt (all c) n + sumTo (delayOf w c) (suc j)
+  still-before unsent = go (decLt t (timeAt (all c) n + sumTo (delayOf w c) (suc j)))
+    where
+      go : Dec (t < timeAt (all c) n + sumTo (delayOf w c) (suc j)) → t < timeAt (all c) n + sumTo (delayOf w c) (suc j)
+      go (yes d) = d
+      go (no d) = absurd (omega (arith, unsent, all-sent (omega (arith, d))))
+
+module _ {w : Store} {all : Accepted} (s : Seen w all) (t : ℕ) (on : OnLinks (planOf w) (trafficOf w all) t) where
+  pub in-time : (c j n : ℕ) → c < channelsOf w → j < hopsOf w c → n < length (all c)
+      → timeAt (all c) n + sumTo (delayOf w c) (suc j) ≤ t → endAfter (all c) (suc n) ≤ sentOf w c j
+  in-time = all-sent s w (counted s) t on
+
+  pub before-due : (c j n : ℕ) → c < channelsOf w → j < hopsOf w c → n < length (all c)
+      → sentOf w c j < endAfter (all c) (suc n) → t < timeAt (all c) n + sumTo (delayOf w c) (suc j)
+  before-due = still-before s w (counted s) t on

@@ -1,0 +1,69 @@
+-- Two stores that have the same numbers of a channel: its delays added up, its row and its head at each place of the route, and
+-- its messages. So J holds on a link where it did.
+use Prim.Native.Nat.{ℕ, suc, _≤_, _<_}
+use mathlib.Core.Path.{_≡_, _∙_}
+use mathlib.Core.List.{List, []}
+use native.Mathlib.Decide.{decLt}
+use native.Mathlib.Omega.{arith}
+use Rattle.schedule.specs.Link.{J}
+use Rattle.schedule.specs.Messages.{Message, Orderly}
+use Rattle.schedule.specs.Channel.{Course, rowAt, headOf}
+use Rattle.schedule.specs.Network.{Key, Traffic, row, head, Inside}
+use Rattle.schedule.proofs.Link.{same-kept}
+use Rattle.store.specs.Layout.{Store, channelsOf, cOf, pOf, hopsOf, messagesOf, delayOf, timeOf, endOf}
+use Rattle.folds.specs.Folds.{sumTo}
+use Rattle.folds.proofs.Folds.{sum-same}
+use Rattle.store.proofs.Laws.Sound.{Sound}
+use Rattle.store_same.proofs.Same.{SameRecord, messages-same, time-same, end-same}
+use Rattle.store_same.proofs.Numbers.{SameNumbers}
+use Rattle.promise_view.specs.View.{channelOf, keysOf, planOf, Accepted, Told}
+use Rattle.promise_view.proofs.Places.{offset-is, inside-is}
+use Rattle.promise_view.proofs.Planned.{placed}
+
+module _ {w w′ : Store} {c : ℕ} (same : SameNumbers w w′ c) where
+  pub delays-same : (n : ℕ) → n ≤ hopsOf w c → sumTo (delayOf w′ c) n ≡ sumTo (delayOf w c) n
+  delays-same n h = sum-same (delayOf w′ c) (delayOf w c) n (λ j i. same .delay-is j (omega arith))
+
+  pub row-same : (j : ℕ) → j < hopsOf w c → rowAt (channelOf w′ c) j ≡ rowAt (channelOf w c) j
+  row-same j h = rw (same .c-is, same .p-is, same .delay-is j h)
+
+  head-same : (now : Course) (j : ℕ) → j < hopsOf w c → headOf (channelOf w′ c) now j ≡ headOf (channelOf w c) now j
+  head-same now j h = rw (offset-is w′ c j, offset-is w c j, delays-same j (omega arith), same .p-is)
+
+-- the messages that a store tells of
+pub told-same : {w w′ : Store} {c : ℕ} {ms : List Message} → messagesOf w′ c ≡ messagesOf w c
+    → ((n : ℕ) → timeOf w′ c n ≡ timeOf w c n) → ((n : ℕ) → endOf w′ c n ≡ endOf w c n) → Told w c ms → Told w′ c ms
+told-same messages times ends t = record {
+  count = messages ∙ t .count;
+  time = λ n h i. times (suc n) ∙ t .time n h i;
+  end = λ n h i. ends n ∙ t .end n h i;
+}
+
+pub told-record : {w w′ : Store} {c : ℕ} {ms : List Message} → SameRecord w w′ c → Told w c ms → Told w′ c ms
+told-record same = told-same (messages-same same) (time-same same) (end-same same)
+
+-- every channel that w has
+module _ {w w′ : Store} (same : (c : ℕ) → c < channelsOf w → SameNumbers w w′ c) where
+  pub orderly-same : {all : Accepted} → ((c : ℕ) → Orderly (cOf w c) (pOf w c) 0 0 (all c))
+      → ((c : ℕ) → channelsOf w ≤ c → all c ≡ []) → (c : ℕ) → Orderly (cOf w′ c) (pOf w′ c) 0 0 (all c)
+  orderly-same {all} orderly none c = go (decLt c (channelsOf w))
+    where
+      go : Dec (c < channelsOf w) → Orderly (cOf w′ c) (pOf w′ c) 0 0 (all c)
+      go (yes h) = rw (same c h .c-is, same c h .p-is) (orderly c)
+      go (no h) = rw (none c (omega (arith, h))) tt
+
+  -- J for the rows that link l has in w, with traffic that has the same heads there
+  pub link-same : Sound w → (now now′ : Traffic)
+      → ((k : Key) → Inside (planOf w) k → head (planOf w) now′ k ≡ head (planOf w) now k)
+      → (l t : ℕ) → J (row (planOf w)) (head (planOf w) now) (keysOf w l) t
+      → J (row (planOf w′)) (head (planOf w′) now′) (keysOf w l) t
+  link-same sound now now′ heads l t =
+      same-kept (row (planOf w)) (row (planOf w′)) (head (planOf w) now) (head (planOf w′) now′) (keysOf w l) t
+      (λ k m. both k (placed sound l k m))
+    where
+      both : (k : Key) → Inside (planOf w) k
+          → (row (planOf w′) k ≡ row (planOf w) k) × (head (planOf w′) now′ k ≡ head (planOf w) now k)
+      both k i =
+          let h : _ = inside-is w k i in
+          let numbers : SameNumbers w w′ (k .channel) = same (k .channel) (h .0) in
+          (row-same numbers (k .place) (h .1), head-same numbers (now′ (k .channel)) (k .place) (h .1) ∙ heads k i)

@@ -1,0 +1,90 @@
+-- Rows as numbers: what the loop of `numbers_of` builds, and that the numbers of rows are read back as the rows.
+use mathlib.Core.Path.{_≡_, refl, sym, ap, _∙_}
+use Prim.Native.Nat.{ℕ, zero, suc, _+_, _-_, _*_, _%_, _<_, _≤_}
+use native.Mathlib.Omega.{arith}
+use native.Mathlib.Nat.{le-refl}
+use native.Mathlib.Numerals.{add-one}
+use mathlib.Core.List.{List, [], _∷_, _++_}
+use mathlib.Core.Bool.{true}
+use lib.ListN.{length, replicate, take, getD}
+use lib.Seq.{length-take-le, take-suc, take-length, take-append-seam}
+use Rattle.response.specs.declared.Row.{Row}
+use Rattle.response.specs.Numbers.{rowsOf, wholeRows}
+use Rattle.response.specs.Alone.{alone, aloneOn}
+use Rattle.response.proofs.Laws.Alone.{alone-on}
+use Rattle.response_table.specs.Rows.{zeroRow, numbersOf, filledOf, withRow}
+
+-- ---- what the loop builds
+-- the numbers after i turns
+unfoldable pub filled : List Row → ℕ → List ℕ
+filled rows zero = replicate 96 0
+filled rows (suc i) = withRow (filled rows i) i (getD rows i zeroRow)
+
+-- a turn counts with `i + 1`
+pub filled-more : (rows : List Row) (i : ℕ) → filled rows (i + 1) ≡ withRow (filled rows i) i (getD rows i zeroRow)
+unfolding filled
+filled-more rows i = ap (filled rows) (add-one i)
+
+-- a row is put behind a row
+past-row : (a b c : ℕ) (l : List ℕ) (i : ℕ) (x : Row) → withRow (a ∷ (b ∷ (c ∷ l))) (suc i) x ≡ a ∷ (b ∷ (c ∷ withRow l i x))
+past-row a b c l i x =
+    let e₀ : 3 * suc i ≡ suc (suc (suc (3 * i))) = omega arith in
+    let e₁ : 3 * suc i + 1 ≡ suc (suc (suc (3 * i + 1))) = omega arith in
+    let e₂ : 3 * suc i + 2 ≡ suc (suc (suc (3 * i + 2))) = omega arith in
+    rw (e₂, e₁, e₀) refl
+
+-- a row is put in place of the three numbers behind rows
+behind : (xs : List Row) (a b c : ℕ) (l : List ℕ) (x : Row) → withRow (numbersOf xs ++ (a ∷ (b ∷ (c ∷ l)))) (length xs) x ≡ numbersOf (xs ++ (x ∷ [])) ++ l
+unfolding numbersOf
+behind [] a b c l x = refl
+behind (y ∷ xs) a b c l x = past-row (y .c) (y .p) (y .delay) (numbersOf xs ++ (a ∷ (b ∷ (c ∷ l)))) (length xs) x ∙ ap (λ (t : List ℕ). y .c ∷ (y .p ∷ (y .delay ∷ t))) (behind xs a b c l x)
+
+-- the zeros that are left have room for one more row
+zeros-left : (i : ℕ) → i < 32 → replicate {A = ℕ} (96 - 3 * i) 0 ≡ 0 ∷ (0 ∷ (0 ∷ replicate (96 - 3 * suc i) 0))
+zeros-left i l =
+    let e : 96 - 3 * i ≡ suc (suc (suc (96 - 3 * suc i))) = omega (arith, l) in
+    rw e refl
+
+filled-first : (rows : List Row) (i : ℕ) → i ≤ length rows → length rows ≤ 32 → filled rows i ≡ numbersOf (take i rows) ++ replicate (96 - 3 * i) 0
+unfolding filled numbersOf
+filled-first rows zero l few = refl
+filled-first rows (suc i) l few =
+    let less : i < 32 = omega (arith, l, few) in
+    let below : i ≤ length rows = omega (arith, l) in
+    let x : Row = getD rows i zeroRow in
+    ap (λ (t : List ℕ). withRow t i x) (filled-first rows i below few ∙ ap (λ (t : List ℕ). numbersOf (take i rows) ++ t) (zeros-left i less))
+    ∙ ap (λ (k : ℕ). withRow (numbersOf (take i rows) ++ (0 ∷ (0 ∷ (0 ∷ replicate (96 - 3 * suc i) 0)))) k x) (sym (length-take-le i rows below))
+    ∙ behind (take i rows) 0 0 0 (replicate (96 - 3 * suc i) 0) x
+    ∙ ap (λ (t : List Row). numbersOf t ++ replicate (96 - 3 * suc i) 0) (sym (take-suc rows i zeroRow l))
+
+-- the loop's end
+pub filled-all : (rows : List Row) → length rows ≤ 32 → filled rows (length rows) ≡ filledOf rows
+unfolding filledOf
+filled-all rows few = filled-first rows (length rows) (le-refl (length rows)) few ∙ ap (λ (t : List Row). numbersOf t ++ replicate (96 - 3 * length rows) 0) (take-length rows)
+
+-- ---- the numbers are read back as the rows
+pub length-numbersOf : (rows : List Row) → length (numbersOf rows) ≡ 3 * length rows
+unfolding numbersOf
+length-numbersOf [] = refl
+length-numbersOf (x ∷ rows) = omega (arith, length-numbersOf rows)
+
+pub rowsOf-numbersOf : (rows : List Row) → rowsOf (numbersOf rows) ≡ rows
+unfolding rowsOf numbersOf
+rowsOf-numbersOf [] = refl
+rowsOf-numbersOf (x ∷ rows) = ap (λ (t : List Row). x ∷ t) (rowsOf-numbersOf rows)
+
+three-whole : (n : ℕ) → (3 * n) % 3 ≡ 0
+three-whole n = omega arith
+
+whole-numbersOf : (rows : List Row) → wholeRows (numbersOf rows) ≡ true
+whole-numbersOf rows = rw (length-numbersOf rows, three-whole (length rows)) refl
+
+pub aloneOn-numbersOf : (rows : List Row) (own limit : ℕ) → aloneOn (numbersOf rows) own limit ≡ alone rows own limit
+aloneOn-numbersOf rows own limit = alone-on (numbersOf rows) own limit (whole-numbersOf rows) ∙ ap (λ (t : List Row). alone t own limit) (rowsOf-numbersOf rows)
+
+-- the answer on the part of the array that the rows fill
+pub aloneOn-filledOf : (rows : List Row) (own limit : ℕ) → aloneOn (take (3 * length rows) (filledOf rows)) own limit ≡ alone rows own limit
+unfolding filledOf
+aloneOn-filledOf rows own limit =
+    ap (λ (k : ℕ). aloneOn (take k (filledOf rows)) own limit) (sym (length-numbersOf rows))
+    ∙ ap (λ (t : List ℕ). aloneOn t own limit) (take-append-seam (numbersOf rows) (replicate (96 - 3 * length rows) 0)) ∙ aloneOn-numbersOf rows own limit

@@ -1,8 +1,0 @@
--- Laws of the definitions in specs/, for the crates above.
-pub mod Layout
-pub mod Folds
-pub mod Adding
-pub mod Amounts
-pub mod Sound
-pub mod Cleared
-pub mod Ring

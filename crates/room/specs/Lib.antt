@@ -1,6 +1,0 @@
-pub mod Layout
-pub mod Folds
-pub mod Amounts
-pub mod Route
-pub mod Sound
-pub mod Ranged

@@ -1,0 +1,80 @@
+-- What is still to be written, before and after a step.
+use Prim.Native.Nat.{ℕ, suc, _+_, _<_}
+use mathlib.Core.Path.{_≡_, refl}
+use mathlib.Core.Bool.{Bool, true, false}
+use mathlib.Core.List.{List, [], _++_, append-assoc}
+use native.Mathlib.Omega.{arith}
+use lib.ListN.{take}
+use Rattle.text_decimal.specs.Decimal.{Text}
+use Rattle.text_decimal.specs.Put.{partOf}
+use Rattle.store.specs.Layout.{Store}
+use Rattle.text_lines.specs.Lines.{linesFrom, ahead, feedAhead, mostKept}
+use Rattle.text_lines.proofs.Laws.{lines-fed, lines-unfed, beyond}
+use Rattle.script_tick.specs.Tick.{tickOut, tickStore, restStore}
+use Rattle.script_tick.specs.Tick.{restOut as tickRest}
+use Rattle.script_play.specs.declared.Phase.{Phase}
+use Rattle.script_play.specs.declared.Next.{Next}
+use Rattle.script_play.specs.declared.Next.the-variants.{Line, Slots}
+use Rattle.script_play.specs.Play.{Step, played, playedLinks}
+use Rattle.script_run.specs.Listing.{nextOut, nextStore, pending, counted, linesOut, restOut}
+use Rattle.script_run.proofs.Cut.{before-cut, line-cut}
+
+-- what comes next after a piece of a tick
+abbrev pub afterTick : (over : Bool) → (left : ℕ) → Next
+afterTick true left = Line
+afterTick false left = Slots left
+
+after-out : (over : Bool) (left : ℕ) (w : Store) → nextOut (afterTick over left) w ≡ tickRest over w left
+after-out true left w = refl
+after-out false left w = refl
+
+after-store : (over : Bool) (left : ℕ) (w : Store) → nextStore (afterTick over left) w ≡ restStore over w left
+after-store true left w = refl
+after-store false left w = refl
+
+module _ (phase : Phase) (links : List ℕ) (lines : ℕ) where
+  -- a piece of a tick
+  pub tick-rest : (n left : ℕ) (over : Bool) (w later : Store) (part before rest : Text)
+      → tickOut w n ≡ part ++ tickRest over later left → tickStore w n ≡ restStore over later left
+      → restOut phase (Slots n) w links lines before rest
+      ≡ part ++ restOut phase (afterTick over left) later links lines before rest
+  unfolding restOut
+  tick-rest n left over w later part before rest e f =
+      rw (e, f, after-out over left later, after-store over left later, append-assoc)
+
+  module _ (w : Store) (before chunk more : Text) where
+    -- a chunk with no line feed
+    pub unfed-rest : feedAhead chunk ≡ false
+        → restOut phase Line w links lines before (chunk ++ more)
+        ≡ restOut phase Line w links lines (take mostKept (before ++ ahead chunk)) more
+    unfolding restOut
+    unfed-rest h = rw (lines-unfed before chunk more h) (before-cut phase w links lines (before ++ ahead chunk) more)
+
+    -- a line
+    abbrev step : Step
+    step = played phase w links (take mostKept (before ++ ahead chunk)) (counted lines)
+
+    pub fed-rest : feedAhead chunk ≡ true
+        → restOut phase Line w links lines before (chunk ++ more)
+        ≡ step .out ++ restOut (step .phase) (step .next) (step .store)
+        (playedLinks phase links (take mostKept (before ++ ahead chunk))) (counted lines) [] (beyond chunk ++ more)
+    unfolding restOut linesOut
+    fed-rest h =
+        rw (lines-fed before chunk more h)
+        (line-cut phase w links lines (before ++ ahead chunk) (linesFrom [] (beyond chunk ++ more)))
+
+-- The same for what the code has in its hands: what came next was a tick of n slots, and whether it is over has been looked at.
+pub piece-rest : (phase : Phase) (next : Next) (lines n left : ℕ) (over b : Bool) (w later : Store) (out : List ℕ) (at end : ℕ)
+    → next ≡ Slots n → over ≡ b → tickOut w n ≡ partOf out at end ++ tickRest over later left
+    → tickStore w n ≡ restStore over later left → (links : List ℕ) (before rest : Text)
+    → restOut phase next w links lines before rest
+    ≡ partOf out at end ++ restOut phase (afterTick b left) later links lines before rest
+piece-rest phase next lines n left over b w later out at end e o t s links before rest =
+    rw (e, ← o) (tick-rest phase links lines n left over w later (partOf out at end) before rest t s)
+
+-- it falls from piece to piece
+pub pending-over : {n : ℕ} (next : Next) → next ≡ Slots n → 0 < pending next
+pending-over next e = rw e (omega arith)
+
+pub pending-less : {n left : ℕ} (next : Next) → next ≡ Slots n → left < n → suc left < pending next
+pending-less next e h = rw e (omega arith)

@@ -1,0 +1,94 @@
+-- `script_tick::step` meets its contract, by whether its slot was refused, sent nothing or sent.
+use Prim.Native.Nat.{ℕ}
+use mathlib.Core.Path.{refl}
+use mathlib.Core.List.{List}
+use native.Mathlib.Omega.{arith}
+use borrow.Author.Needs.{needs}
+use lib.ListN.{replicate}
+use Rattle.script_tick.proofs.Steps.{sends-few, step-refused, step-still, step-sent}
+use Rattle.script_tick.proofs.step.Statement.{statement}
+use Rattle.script_tick.proofs.step.Tie as tie
+
+abbrev start : tie.After-run → tie.Start
+start c = c .before .before .before .before .before
+
+-- what is lent to the slot
+abbrev lent : List ℕ
+lent = replicate 80 0
+
+slice-aggregate-run : tie.Need-slice-aggregate-run
+slice-aggregate-run c = search needs
+
+run-requires : tie.Need-run-requires
+run-requires c κs = search needs
+
+slice-aggregate-line : tie.Need-slice-aggregate-line
+slice-aggregate-line c = search needs
+
+slice-aggregate-line-2 : tie.Need-slice-aggregate-line-2
+slice-aggregate-line-2 c = search needs
+
+line-requires : tie.Need-line-requires
+line-requires c κs = omega arith
+
+returns : tie.Need-returns
+returns c =
+    let t = c .before .before .before .before in
+    let r = t .before .before in
+    let s = start r in
+    step-refused _ lent refl _ _ _ _ _ (r .run .ensures) (t .if1 .taken) _ (s .pre .0) _ _ (s .pre .1) _ _
+    (c .before .before .before .line-arg .given .0 .1) (c .line .ensures .1) (c .line .ensures .0)
+
+sub-rest : tie.Need-sub-rest
+sub-rest c = search needs
+
+skip-requires : tie.Need-skip-requires
+skip-requires c κs = search needs
+
+sub-later : tie.Need-sub-later
+sub-later c = search needs
+
+returns-2 : tie.Need-returns-2
+returns-2 c =
+    let t = c .before .before in
+    let e = t .before in
+    let r = e .before .before in
+    let s = start r in
+    step-still _ lent refl _ _ _ _ _ (r .run .ensures) (e .if1 .left) _ (s .pre .0) _ _ (s .pre .1) (t .if2 .taken) _ _
+    (c .skip .ensures .0) (c .skip .ensures .1)
+
+slice-aggregate-sends : tie.Need-slice-aggregate-sends
+slice-aggregate-sends c = search needs
+
+sends-requires : tie.Need-sends-requires
+sends-requires c κs =
+    let e = c .before .before .before in
+    let r = e .before .before in
+    let few = sends-few _ lent refl _ _ _ _ _ (r .run .ensures) (e .if1 .left) in
+    ((omega (arith, few, r .run .kept .1 .0)), (omega (arith, few, c .before .sends-arg .given .0 .1)))
+
+returns-3 : tie.Need-returns-3
+returns-3 c =
+    let e = c .before .before .before .before in
+    let r = e .before .before in
+    let s = start r in
+    step-sent _ lent refl _ _ _ _ _ (r .run .ensures) (e .if1 .left) _ (s .pre .0) _ _ (s .pre .1) _ _
+    (c .before .before .sends-arg .given .0 .1) (c .sends4 .ensures .1) (c .sends4 .ensures .0)
+
+pub step-spec : {M : Type 1} → statement M
+step-spec =
+    tie.close
+    (tie.spec
+    slice-aggregate-run
+    run-requires
+    slice-aggregate-line
+    slice-aggregate-line-2
+    line-requires
+    returns
+    sub-rest
+    skip-requires
+    sub-later
+    returns-2
+    slice-aggregate-sends
+    sends-requires
+    returns-3)

@@ -1,0 +1,104 @@
+// Whether a slot runs: document 01, "A slot", and refusals 17, 14 and 15. Nothing is written but the picks.
+use kinds::Slot;
+use slot_rules::Turn;
+use store::channel;
+use store::head;
+use store::link;
+ghost use mathlib.Core.Path.{_≡_};
+ghost use mathlib.Core.Bool.{true};
+ghost use Prim.Native.Nat.{_<_};
+ghost use Rattle.store.specs.Layout.{linksOf, channelsOf, hopsOf};
+ghost use Rattle.folds.specs.Folds.{every};
+ghost use Rattle.store.specs.Sound.{soundOf};
+ghost use Rattle.slot_rules.specs.Slot.{slotTurn};
+ghost use Rattle.slot_pick.specs.Picks.{picksTo};
+ghost use Rattle.slot_keeps.specs.Room.{leaves as leavesAt, hasRoom, roomAfter};
+ghost use Rattle.slot_checks.specs.Left.{picksLeft};
+
+// Whether a packet of channel `c` leaves place `j` of its route in this slot.
+fn leaves(store: &[u64], picks: &[u64; 16], c: usize, j: usize) -> bool
+    requires { ⌜ soundOf (now store) ≡ true ⌝ }
+    requires { ⌜ now picks ≡ picksTo (now store) (linksOf (now store)) ⌝ }
+    requires { ⌜ c < channelsOf (now store) ⌝ }
+    requires { ⌜ j < hopsOf (now store) c ⌝ }
+    ensures { λ r. ⌜ r ≡ leavesAt (now (store .entry)) c j ⌝ }
+{
+    let l = channel::route(store, c, j);
+    let position = slot_move::pick(picks, l);
+    if position == 0 {
+        return false;
+    }
+    link::row_channel(store, l, position - 1) == c
+}
+
+// Whether one more may come there: fewer are held than are reserved, or one leaves.
+fn has_room(store: &[u64], picks: &[u64; 16], c: usize, j: usize) -> bool
+    requires { ⌜ soundOf (now store) ≡ true ⌝ }
+    requires { ⌜ now picks ≡ picksTo (now store) (linksOf (now store)) ⌝ }
+    requires { ⌜ c < channelsOf (now store) ⌝ }
+    requires { ⌜ j < hopsOf (now store) c ⌝ }
+    ensures { λ r. ⌜ r ≡ hasRoom (now (store .entry)) c j ⌝ }
+{
+    if store_route::held(store, c, j) < store_route::reserved(store, c, j) {
+        return true;
+    }
+    leaves(store, picks, c, j)
+}
+
+// Whether the packet that link `l` picked is on its last link, or has room on the next one.
+fn room_after(store: &[u64], picks: &[u64; 16], l: usize) -> bool
+    requires { ⌜ soundOf (now store) ≡ true ⌝ }
+    requires { ⌜ now picks ≡ picksTo (now store) (linksOf (now store)) ⌝ }
+    requires { ⌜ l < linksOf (now store) ⌝ }
+    ensures { λ r. ⌜ r ≡ roomAfter (now (store .entry)) l ⌝ }
+{
+    let position = slot_move::pick(picks, l);
+    if position == 0 {
+        return true;
+    }
+    let c = link::row_channel(store, l, position - 1);
+    let next = link::row_place(store, l, position - 1) + 1;
+    if next >= channel::hops(store, c) {
+        return true;
+    }
+    has_room(store, picks, c, next)
+}
+
+// 17, looked at last: whether every picked packet has room where it goes.
+fn fits(store: &[u64], picks: &[u64; 16]) -> bool
+    requires { ⌜ soundOf (now store) ≡ true ⌝ }
+    requires { ⌜ now picks ≡ picksTo (now store) (linksOf (now store)) ⌝ }
+    ensures { λ r. ⌜ r ≡ every (roomAfter (now (store .entry))) (linksOf (now (store .entry))) ⌝ }
+{
+    let links = head::links(store);
+    let mut l: usize = 0;
+    while l < links {
+        if !room_after(store, picks, l) {
+            return false;
+        }
+        l += 1;
+    }
+    true
+}
+
+// How a slot ends, where the output has `room` numbers: checks 17, 14, 15 and 17, in this order. Once the first three are passed,
+// `picks` are what the links have picked.
+pub fn turn(store: &[u64], room: usize, picks: &mut [u64; 16]) -> Turn
+    ensures { λ r. ⌜ r ≡ slotTurn (now (store .entry)) room ⌝ }
+    ensures { λ _. ⌜ now (picks .exit) ≡ picksLeft (now (store .entry)) room (now (picks .entry)) ⌝ }
+{
+    if !sound::is_sound(store) {
+        return Turn::Refused(17, 0);
+    }
+    if head::clock(store) >= Slot::END {
+        return Turn::Refused(14, 0);
+    }
+    if room < 5 * head::links(store) {
+        return Turn::Refused(15, 0);
+    }
+    *picks = slot_pick::picks(store);
+    if !fits(store, picks) {
+        return Turn::Refused(17, 0);
+    }
+    Turn::Ran
+}

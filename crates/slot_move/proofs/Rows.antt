@@ -1,0 +1,73 @@
+-- The row that a link picked, as the code reads it: position p of the picks; channel c, place j.
+use Prim.Native.Nat.{ℕ, suc, _-_, _≤_, _<_}
+use mathlib.Core.Path.{_≡_, sym, _∙_}
+use mathlib.Core.Bool.{true}
+use mathlib.Core.List.{List}
+use native.Mathlib.Nat.{mul-le-mul}
+use native.Mathlib.Omega.{arith}
+use Rattle.kinds.specs.Ranges.{mostLinks, mostRows, mostChannels, mostHops, mostNumber}
+use Rattle.store.specs.Layout.{Store, Long, ring, numberAt, linksOf, rowChannelOf, rowPlaceOf, messagesOf, sentOf}
+use Rattle.store.specs.Sound.{soundOf}
+use Rattle.store.proofs.Laws.Sound.{ChannelIs, Sound, sound-is}
+use Rattle.slot_rules.specs.Head.{messageOf}
+use Rattle.slot_rules.specs.Pick.{pickOf}
+use Rattle.slot_rules.proofs.Laws.Head.{MessageIs, message-is, entered-most}
+use Rattle.slot_rules.proofs.Laws.Pick.{picked}
+use Rattle.slot_pick.specs.Picks.{picksTo}
+use Rattle.slot_pick.proofs.Laws.{picks-at}
+use Rattle.store_same.proofs.Few.{few-channels, few-places}
+use Rattle.slot_keeps.proofs.Leaves.{Leaving, leaving}
+use Rattle.slot_move.specs.Sends.{mostPackets}
+
+-- what the picks say of link l
+module _ (w : Store) (sound : soundOf w ≡ true) (picks : List ℕ) (all : picks ≡ picksTo w (linksOf w))
+    (l p : ℕ) (h : l < linksOf w) (e : p ≡ numberAt picks l) where
+  position : pickOf w l ≡ p
+  position = sym (picks-at w (linksOf w) l h (sound-is w sound .counts .links-most)) ∙ (rw (sym all) (sym e))
+
+  pub no-row : p ≤ 0 → pickOf w l ≡ 0
+  no-row z = omega (arith, position)
+
+  pub a-row : 0 < p → pickOf w l ≡ suc (p - 1)
+  a-row z = omega (arith, position)
+
+-- the row that it picked: its place can be read, and the packet that goes next there is one of a message
+pub record Row (w : Store) (l c j : ℕ) : Type 0 where
+  pub leaves : Leaving w l c j
+  pub ready : Long w × ((c < mostChannels) × (j < mostHops))
+  pub message : MessageIs w c (sentOf w c j) (messagesOf w c) (ring - 1) mostNumber (messageOf w c j)
+  pub sent-few : sentOf w c j ≤ mostPackets
+
+module _ (w : Store) (sound : soundOf w ≡ true) (l : ℕ) (h : l < linksOf w) where
+  s : Sound w
+  s = sound-is w sound
+
+  pub link-few : l < mostLinks
+  link-few = omega (arith, s .counts .links-most)
+
+  module _ (k : ℕ) (e : pickOf w l ≡ suc k) where
+    pub row-few : k < mostRows
+    row-few = omega (arith, picked w l k e .0, s .link l h .rows-most)
+
+    pub row-ready : Long w × ((l < mostLinks) × (k < mostRows))
+    row-ready = (s .long, (link-few, row-few))
+
+    pub row-at : (c j : ℕ) → c ≡ rowChannelOf w l k → j ≡ rowPlaceOf w l k → Row w l c j
+    row-at c j a b = record {
+      leaves = leaves;
+      ready = (s .long, (few-channels s c (leaves .channel), few-places s c j (leaves .channel) (leaves .place)));
+      message = message-is kept j (leaves .place) (leaves .held);
+      sent-few = omega (
+        arith,
+        leaves .held,
+        entered-most kept j (leaves .place),
+        kept .accepted-most,
+        mul-le-mul (kept .good .c-most) (kept .messages-most),
+      );
+    }
+      where
+        leaves : Leaving w l c j
+        leaves = rw (a, b) (leaving s l k h e)
+
+        kept : ChannelIs w c
+        kept = s .channel c (leaves .channel)

@@ -1,0 +1,83 @@
+// The packet of a channel that goes next at a place of its route: its message and its logical time. Document 01, "A slot".
+use store::channel;
+ghost use mathlib.Core.Path.{_≡_};
+ghost use mathlib.Core.Bool.{true};
+ghost use Prim.Native.Nat.{_%_, _<_};
+ghost use Rattle.kinds.specs.Ranges.{mostChannels, mostHops};
+ghost use Rattle.store.specs.Layout.{Long, ring, channelsOf, hopsOf, delayOf};
+ghost use Rattle.folds.specs.Folds.{sumTo};
+ghost use Rattle.store.specs.Sound.{soundOf};
+ghost use Rattle.store.specs.Ranged.{Ranged};
+ghost use Rattle.slot_rules.specs.Head.{messageOf, logicalOf, isHeld};
+
+// A message that was looked for: its number, counted from 1, and its place in the ring.
+struct Found {
+    number: u64,
+    place: usize,
+}
+
+// The message that goes next at place `j` of a channel's route.
+fn next(store: &[u64], c: usize, j: usize) -> Found
+    requires { ⌜ Long (now store) ⌝ }
+    requires { ⌜ c < mostChannels ⌝ }
+    requires { ⌜ j < mostHops ⌝ }
+    ensures { λ r. ⌜ r ≡ record { number = messageOf (now (store .entry)) c j; place = messageOf (now (store .entry)) c j % ring } ⌝ }
+{
+    let sent = channel::sent(store, c, j);
+    let mut n = channel::messages(store, c);
+    let mut at = channel::ring_place(n);
+    let mut left = store::UNDELIVERED;
+    while left > 0 {
+        if n == 0 {
+            break;
+        }
+        let before = channel::place_before(at);
+        if channel::end_in(store, c, before) <= sent {
+            break;
+        }
+        n -= 1;
+        at = before;
+        left -= 1;
+    }
+    Found {
+        number: n,
+        place: at,
+    }
+}
+
+// Its number, counted from 1.
+pub fn message(store: &[u64], c: usize, j: usize) -> u64
+    requires { ⌜ Long (now store) ⌝ }
+    requires { ⌜ c < mostChannels ⌝ }
+    requires { ⌜ j < mostHops ⌝ }
+    ensures { λ r. ⌜ r ≡ messageOf (now (store .entry)) c j ⌝ }
+{
+    next(store, c, j).number
+}
+
+// The delays of a channel before place `j` of its route.
+fn offset(store: &[u64], c: usize, j: usize) -> u64
+    requires { ⌜ Ranged (now store) c ⌝ }
+    requires { ⌜ j < hopsOf (now store) c ⌝ }
+    ensures { λ r. ⌜ r ≡ sumTo (delayOf (now (store .entry)) c) j ⌝ }
+{
+    let mut sum: u64 = 0;
+    let mut i: usize = 0;
+    while i < j {
+        sum += channel::delay(store, c, i);
+        i += 1;
+    }
+    sum
+}
+
+// The logical time of the packet that goes next at place `j` of a channel's route, where one is held.
+pub fn logical(store: &[u64], c: usize, j: usize) -> u64
+    requires { ⌜ soundOf (now store) ≡ true ⌝ }
+    requires { ⌜ c < channelsOf (now store) ⌝ }
+    requires { ⌜ j < hopsOf (now store) c ⌝ }
+    requires { ⌜ isHeld (now store) c j ≡ true ⌝ }
+    ensures { λ r. ⌜ r ≡ logicalOf (now (store .entry)) c j ⌝ }
+{
+    let found = next(store, c, j);
+    channel::time_in(store, c, found.place) + offset(store, c, j)
+}

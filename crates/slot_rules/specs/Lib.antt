@@ -1,0 +1,4 @@
+pub mod Head
+pub mod Pick
+pub mod Slot
+pub mod Idle

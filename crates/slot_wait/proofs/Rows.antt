@@ -1,0 +1,61 @@
+-- A row of a link of a sound store, as the code reads it.
+use Prim.Native.Nat.{ℕ, _+_, _-_, _≤_, _<_}
+use mathlib.Core.Path.{_≡_}
+use mathlib.Core.Bool.{true, false}
+use native.Mathlib.Omega.{arith}
+use borrow.Author.Tests.{lt-ltb, le-ltb}
+use Rattle.kinds.specs.Ranges.{mostChannels, mostHops}
+use Rattle.store.specs.Layout.{Store, Long, linksOf, channelsOf, clockOf, horizonOf, rowsOf, rowChannelOf, rowPlaceOf, hopsOf}
+use Rattle.store.specs.Layout.{sentOf}
+use Rattle.store.specs.Amounts.{enteredOf}
+use Rattle.store.specs.Sound.{soundOf}
+use Rattle.store.proofs.Laws.Sound.{Sound, RowIs, sound-is}
+use Rattle.slot_rules.specs.Head.{logicalOf, isHeld}
+use Rattle.slot_rules.specs.Pick.{rowHeld}
+use Rattle.slot_wait.specs.Least.{waitOf}
+
+-- row k, read as channel c at place j
+pub record Row (w : Store) (l k c j : ℕ) : Type 0 where
+  pub sound : soundOf w ≡ true
+  pub there : l < linksOf w
+  pub below : k < rowsOf w l
+  pub its-channel : c ≡ rowChannelOf w l k
+  pub its-place : j ≡ rowPlaceOf w l k
+
+module _ {w : Store} {l k c j : ℕ} (r : Row w l k c j) where
+  s : Sound w
+  s = sound-is w (r .sound)
+
+  stands : RowIs w l k
+  stands = s .rows l (r .there) .rows k (r .below)
+
+  pub row-channel : c < channelsOf w
+  row-channel = rw (r .its-channel) (stands .channel)
+
+  pub row-place : j < hopsOf w c
+  row-place = rw (r .its-channel, r .its-place) (stands .place)
+
+  pub row-ready : Long w × ((c < mostChannels) × (j < mostHops))
+  row-ready = (
+    s .long,
+    (
+      omega (arith, row-channel, s .counts .channels-most),
+      omega (arith, row-place, s .channel c row-channel .hops-most),
+    ),
+  )
+
+  -- by what was sent there and what has come
+  module _ {sent entered : ℕ} (x : sent ≡ sentOf w c j) (y : entered ≡ enteredOf w c j) where
+    pub holds : sent < entered → isHeld w c j ≡ true
+    holds h = lt-ltb (sentOf w c j) (enteredOf w c j) (rw (x, y) at h)
+
+    pub row-holds : sent < entered → rowHeld w l k ≡ true
+    row-holds h = rw (r .its-channel, r .its-place) at (holds h)
+
+    pub row-holds-none : entered ≤ sent → rowHeld w l k ≡ false
+    row-holds-none h = rw (r .its-channel, r .its-place) at (le-ltb (sentOf w c j) (enteredOf w c j) (rw (x, y) at h))
+
+  -- and how long it has to wait
+  pub row-wait : {clock horizon time v : ℕ} → clock ≡ clockOf w → horizon ≡ horizonOf w l → time ≡ logicalOf w c j
+      → v ≡ time - (clock + horizon) → v ≡ waitOf w l k
+  row-wait x y z e = rw (e, z, x, y, r .its-channel, r .its-place)

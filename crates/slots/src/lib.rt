@@ -1,1 +1,0 @@
-// No code: what a slot does to the plan and the traffic that crate `view` sees in a store. The theorems are in proofs/.

@@ -1,0 +1,180 @@
+-- The loop over a channel's messages, and the tests as the code makes them.
+use Prim.Native.Nat.{ℕ, zero, suc, _+_, _-_, _*_, _%_, _≤_, _<_}
+use mathlib.Core.Path.{_≡_, refl, sym, _∙_}
+use mathlib.Core.Bool.{Bool, true, false, _&&_}
+use native.Mathlib.Omega.{arith}
+use native.Mathlib.Decide.{decLe}
+use native.Mathlib.Nat.{mul-le-mul}
+use mir.Syntax.{w64}
+use mir.Val.{Fits}
+use lib.Dec.{leb, ltb}
+use borrow.Author.Tests.{leb-true, le-leb, lt-leb, lt-ltb, le-ltb}
+use Rattle.kinds.specs.Ranges.{mostC, mostNumber, isNumber}
+use Rattle.store.specs.Layout.{Store, ring, placeBefore, cOf, pOf, hopsOf, messagesOf}
+use Rattle.store.specs.Layout.{sentOf, timeOf, endOf}
+use Rattle.store.specs.Amounts.{acceptedOf, deliveredOf}
+use Rattle.store.specs.Sound.{delivered, follows, inOrder, messagesFit}
+use Rattle.store.proofs.Laws.Ring.{ring-same, ring-next, ring-time, ring-end, ring-back}
+
+-- Messages n and n + 1 are p apart, without a sum that could wrap.
+module _ (t p l : ℕ) where
+  pub apart : p ≤ l → leb t (l - p) ≡ leb (t + p) l
+  apart h = go (decLe t (l - p))
+    where
+      go : Dec (t ≤ l - p) → leb t (l - p) ≡ leb (t + p) l
+      go (yes a) = rw (le-leb t (l - p) a) (sym (le-leb (t + p) l (omega arith)))
+      go (no a) =
+          let b : l - p < t = omega arith in
+          rw (lt-leb t (l - p) b) (sym (lt-leb (t + p) l (omega arith)))
+
+  pub not-apart : l < p → leb p l ≡ leb (t + p) l
+  not-apart h = rw (lt-leb p l h) (sym (lt-leb (t + p) l (omega arith)))
+
+-- Message n + 1 after message n: `start` and `end` are their ends.
+module _ (w : Store) (c n start end : ℕ) (b : start ≡ endOf w c n) (e : end ≡ endOf w c (n + 1)) where
+  pub follows-empty : end ≤ start → false ≡ follows w c n
+  follows-empty h =
+      let m : endOf w c (n + 1) ≤ endOf w c n = rw (e, b) at h in
+      rw (le-ltb (endOf w c n) (endOf w c (n + 1)) m)
+
+  sizes : (k : ℕ) → k ≡ cOf w c → start < end → end - start ≤ k
+      → (ltb (endOf w c n) (endOf w c (n + 1)) && leb (endOf w c (n + 1)) (endOf w c n + cOf w c)) ≡ true
+  sizes k q h l =
+      let m : endOf w c n < endOf w c (n + 1) = rw (b, e) at h in
+      let o : endOf w c (n + 1) ≤ endOf w c n + cOf w c = omega (arith, (rw (b, e, q) at l)) in
+      rw (lt-ltb (endOf w c n) (endOf w c (n + 1)) m, le-leb (endOf w c (n + 1)) (endOf w c n + cOf w c) o)
+
+  pub follows-long : (k : ℕ) → k ≡ cOf w c → start < end → k < end - start → false ≡ follows w c n
+  follows-long k q h l =
+      let m : endOf w c n < endOf w c (n + 1) = rw (b, e) at h in
+      let o : endOf w c n + cOf w c < endOf w c (n + 1) = omega (arith, (rw (b, e, q) at l)) in
+      rw (lt-ltb (endOf w c n) (endOf w c (n + 1)) m, lt-leb (endOf w c (n + 1)) (endOf w c n + cOf w c) o)
+
+  module _ (k sent : ℕ) (q : k ≡ cOf w c) (d : sent ≡ deliveredOf w c) (h : start < end) (l : end - start ≤ k) where
+    pub follows-delivered : start ≤ sent → true ≡ follows w c n
+    follows-delivered a =
+        let m : endOf w c n ≤ deliveredOf w c = rw (b, d) at a in
+        rw (sizes k q h l, le-leb (endOf w c n) (deliveredOf w c) m)
+
+    pub follows-apart : sent < start → (r : Bool) → r ≡ leb (timeOf w c n + pOf w c) (timeOf w c (n + 1)) → r ≡ follows w c n
+    follows-apart a r s =
+        let m : deliveredOf w c < endOf w c n = rw (d, b) at a in
+        rw (sizes k q h l, lt-leb (endOf w c n) (deliveredOf w c) m) s
+
+-- The later one as it is read in the ring, at its place.
+module _ (w : Store) (c n at : ℕ) (p : at ≡ (n + 1) % ring) where
+  pub end-is : (end : ℕ) → end ≡ endOf w c at → end ≡ endOf w c (n + 1)
+  end-is end e = e ∙ ring-end (n + 1) at p w c
+
+  pub apart-is : (r : Bool) → r ≡ leb (timeOf w c n + pOf w c) (timeOf w c at)
+      → r ≡ leb (timeOf w c n + pOf w c) (timeOf w c (n + 1))
+  apart-is r e = rw (ring-time (n + 1) at p w c) at e
+
+-- a message's place in the ring tells as much
+follows-place : (w : Store) (c n at : ℕ) → at ≡ n % ring → follows w c at ≡ follows w c n
+follows-place w c n at e = rw (ring-same n at e, ring-next n at e)
+
+-- One step back: message n, with `left` more that may be looked at.
+module _ (w : Store) (c : ℕ) where
+  order-delivered : (n left : ℕ) → delivered w c n ≡ true → inOrder w c n left ≡ true
+  unfolding inOrder
+  order-delivered n zero e = e
+  order-delivered zero (suc left) e = e
+  order-delivered (suc n) (suc left) e = rw e
+
+  order-lost : (n left : ℕ) → 0 < left → n ≡ 0 → delivered w c n ≡ false → inOrder w c n left ≡ false
+  unfolding inOrder
+  order-lost n zero h z e = absurd (omega arith)
+  order-lost zero (suc left) h z e = e
+  order-lost (suc n) (suc left) h z e = absurd (omega arith)
+
+  order-step : (n left : ℕ) → 0 < left → (n ≡ 0 → ⊥) → delivered w c n ≡ false
+      → inOrder w c n left ≡ (follows w c (n - 1) && inOrder w c (n - 1) (left - 1))
+  unfolding inOrder
+  order-step n zero h z e = absurd (omega arith)
+  order-step zero (suc left) h z e = absurd (z refl)
+  order-step (suc n) (suc left) h z e =
+      let a : suc n - 1 ≡ n = omega arith in
+      let b : suc left - 1 ≡ left = omega arith in
+      simp (a, b, e)
+
+  order-end : (n left : ℕ) → left ≤ 0 → inOrder w c n left ≡ delivered w c n
+  unfolding inOrder
+  order-end n zero h = refl
+  order-end n (suc left) h = absurd (omega arith)
+
+-- A loop back over the messages: message n stands at place `at`, and what is left decides.
+pub record Ordering (w : Store) (c last most sent n at left : ℕ) : Type 0 where
+  pub sent-is : sent ≡ deliveredOf w c
+  pub place : at ≡ n % ring
+  pub same : inOrder w c last most ≡ inOrder w c n left
+
+module _ (w : Store) (c last most sent n at left end : ℕ) (o : Ordering w c last most sent n at left)
+    (e : end ≡ endOf w c at) where
+  end-of : end ≡ endOf w c n
+  end-of = e ∙ ring-end n at (o .place) w c
+
+  is-delivered : end ≤ sent → delivered w c n ≡ true
+  is-delivered h =
+      let m : endOf w c n ≤ deliveredOf w c = rw (end-of, o .sent-is) at h in
+      le-leb (endOf w c n) (deliveredOf w c) m
+
+  not-delivered : sent < end → delivered w c n ≡ false
+  not-delivered h =
+      let m : deliveredOf w c < endOf w c n = rw (o .sent-is, end-of) at h in
+      lt-leb (endOf w c n) (deliveredOf w c) m
+
+  pub ordering-delivered : end ≤ sent → true ≡ inOrder w c last most
+  ordering-delivered h = sym (o .same ∙ order-delivered w c n left (is-delivered h))
+
+  pub ordering-lost : 0 < left → n ≡ 0 → sent < end → false ≡ inOrder w c last most
+  ordering-lost h z l = sym (o .same ∙ order-lost w c n left h z (not-delivered l))
+
+  module _ (h : 0 < left) (z : n ≡ 0 → ⊥) (l : sent < end) (before : ℕ) (p : before ≡ placeBefore at) where
+    place-back : before ≡ (n - 1) % ring
+    place-back = p ∙ ring-back n at (o .place) z
+
+    step : (r : Bool) → follows w c before ≡ r → inOrder w c last most ≡ (r && inOrder w c (n - 1) (left - 1))
+    step r f =
+        let g : follows w c (n - 1) ≡ r = sym (follows-place w c (n - 1) before place-back) ∙ f in
+        o .same ∙ (order-step w c n left h z (not-delivered l) ∙ rw g)
+
+    pub ordering-broken : follows w c before ≡ false → false ≡ inOrder w c last most
+    ordering-broken f = sym (step false f)
+
+    pub ordering-more : follows w c before ≡ true → Ordering w c last most sent (n - 1) before (left - 1)
+    ordering-more f = record { sent-is = o .sent-is; place = place-back; same = step true f }
+
+  pub ordering-end : left ≤ 0 → leb end sent ≡ inOrder w c last most
+  ordering-end h = rw (end-of, o .sent-is) (sym (o .same ∙ order-end w c n left h))
+
+pub sent-delivered : (w : Store) (c h s : ℕ) → h ≡ hopsOf w c → s ≡ sentOf w c (h - 1) → s ≡ deliveredOf w c
+sent-delivered w c h s e f = rw (f, e)
+
+-- The numbers of a channel's messages, as they were read: `n` messages, the last at `t` and ending at `e`.
+module _ (w : Store) (c n : ℕ) (en : n ≡ messagesOf w c) where
+  pub too-many : isNumber n ≡ false → false ≡ messagesFit w c
+  too-many h = rw (rw en at h)
+
+  pub few : isNumber n ≡ true → n ≤ mostNumber
+  few h = leb-true n mostNumber h
+
+  pub total-fits : (k : ℕ) → k ≡ cOf w c → cOf w c ≤ mostC → n ≤ mostNumber → Fits w64 (k * n)
+  total-fits k ek h l =
+      let m : k ≤ mostC = rw ek h in
+      record { fits = omega (arith, mul-le-mul m l) }
+
+  module _ (t : ℕ) (et : t ≡ timeOf w c n) (h : isNumber n ≡ true) where
+    pub too-late : isNumber t ≡ false → false ≡ messagesFit w c
+    too-late l = rw (rw en at h, rw (et, en) at l)
+
+    module _ (e k : ℕ) (ee : e ≡ endOf w c n) (ek : k ≡ cOf w c) (l : isNumber t ≡ true) where
+      pub too-much : k * n < e → false ≡ messagesFit w c
+      too-much o =
+          let m : cOf w c * messagesOf w c < acceptedOf w c = rw (ek, ee, en) at o in
+          rw (rw en at h, rw (et, en) at l, lt-leb (acceptedOf w c) (cOf w c * messagesOf w c) m)
+
+      pub ordered : e ≤ k * n → (r : Bool) → r ≡ inOrder w c n (ring - 1) → r ≡ messagesFit w c
+      ordered o r f =
+          let m : acceptedOf w c ≤ cOf w c * messagesOf w c = rw (ek, ee, en) at o in
+          rw (rw en at h, rw (et, en) at l, le-leb (acceptedOf w c) (cOf w c * messagesOf w c) m) (rw en at f)

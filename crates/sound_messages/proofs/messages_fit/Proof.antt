@@ -1,0 +1,105 @@
+-- `sound_messages::messages_fit` meets its contract: test by test.
+use Rattle.kinds.proofs.Laws.{refuted, held}
+use Rattle.sound_messages.proofs.Laws.{too-many, few, total-fits, too-late, too-much, ordered}
+use borrow.Author.Needs.{needs}
+use Rattle.sound_messages.proofs.messages_fit.Statement.{statement}
+use Rattle.sound_messages.proofs.messages_fit.Tie as tie
+
+messages-requires : tie.Need-messages-requires
+messages-requires c κs = search needs
+
+is-number-requires : tie.Need-is-number-requires
+is-number-requires c κs = search needs
+
+returns : tie.Need-returns
+returns c =
+    let s = c .before .before .before .before in
+    let n = c .before in
+    too-many (s .args .store .now) (s .args .c) _ (n .before .messages .ensures) (refuted (n .is-number .ensures) (c .if1 .taken))
+
+time-requires : tie.Need-time-requires
+time-requires c κs = search needs
+
+is-number-requires-2 : tie.Need-is-number-requires-2
+is-number-requires-2 c κs = search needs
+
+returns-2 : tie.Need-returns-2
+returns-2 c =
+    let s = c .before .before .before .before .before .before .before in
+    let t = c .before .before in
+    let i = t .before in
+    let n = i .before in
+    too-late (s .args .store .now) (s .args .c) _ (n .before .messages .ensures) _ (t .time .ensures)
+    (held (n .is-number .ensures) (i .if1 .left)) (refuted (c .before .is-number2 .ensures) (c .if2 .taken))
+
+end-requires : tie.Need-end-requires
+end-requires c κs = search needs
+
+c-requires : tie.Need-c-requires
+c-requires c κs = search needs
+
+mul-if3 : tie.Need-mul-if3
+mul-if3 c =
+    let s = c .before .before .before .before .before .before .before .before .before in
+    let i = c .before .before .before .before .before in
+    let n = i .before in
+    total-fits (s .args .store .now) (s .args .c) _ (n .before .messages .ensures) _ (c .c .ensures) (s .pre .1 .1 .0)
+    (few (s .args .store .now) (s .args .c) _ (n .before .messages .ensures) (held (n .is-number .ensures) (i .if1 .left)))
+
+returns-3 : tie.Need-returns-3
+returns-3 c =
+    let s = c .before .before .before .before .before .before .before .before .before .before in
+    let k = c .before in
+    let j = k .before .before in
+    let t = j .before .before in
+    let i = t .before in
+    let n = i .before in
+    too-much (s .args .store .now) (s .args .c) _ (n .before .messages .ensures) _ (t .time .ensures)
+    (held (n .is-number .ensures) (i .if1 .left)) _ _ (k .before .end .ensures) (k .c .ensures)
+    (held (j .before .is-number2 .ensures) (j .if2 .left)) (c .if3 .taken)
+
+in-order-requires : tie.Need-in-order-requires
+in-order-requires c κs =
+    let s = c .before .before .before .before .before .before .before .before .before .before in
+    let i = c .before .before .before .before .before .before in
+    let n = i .before in (
+      s .pre .0,
+      (
+        s .pre .1 .0,
+        (
+          few (s .args .store .now) (s .args .c) _ (n .before .messages .ensures)
+              (held (n .is-number .ensures) (i .if1 .left)),
+          (s .pre .1 .1 .1 .0, s .pre .1 .1 .1 .1),
+        ),
+      ),
+    )
+
+returns-4 : tie.Need-returns-4
+returns-4 c =
+    let s = c .before .before .before .before .before .before .before .before .before .before .before in
+    let q = c .before in
+    let k = q .before in
+    let j = k .before .before in
+    let t = j .before .before in
+    let i = t .before in
+    let n = i .before in
+    ordered (s .args .store .now) (s .args .c) _ (n .before .messages .ensures) _ (t .time .ensures)
+    (held (n .is-number .ensures) (i .if1 .left)) _ _ (k .before .end .ensures) (k .c .ensures)
+    (held (j .before .is-number2 .ensures) (j .if2 .left)) (q .if3 .left) _ (c .in-order .ensures)
+
+pub messages-fit-spec : {M : Type 1} → statement M
+messages-fit-spec =
+    tie.close
+    (tie.spec
+    messages-requires
+    is-number-requires
+    returns
+    time-requires
+    is-number-requires-2
+    returns-2
+    end-requires
+    c-requires
+    mul-if3
+    returns-3
+    in-order-requires
+    returns-4)

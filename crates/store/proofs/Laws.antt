@@ -1,0 +1,6 @@
+-- Laws of the definitions in specs/, for the crates above.
+pub mod Layout
+pub mod Amounts
+pub mod Sound
+pub mod Cleared
+pub mod Ring

@@ -1,0 +1,60 @@
+-- A channel's amounts and a route's joins at place j, by whether j is the first place; and that what is reserved is bounded.
+use Prim.Native.Nat.{ℕ, zero, suc, _+_, _-_, _/_, _≤_, _<_}
+use mathlib.Core.Path.{_≡_, refl}
+use mathlib.Core.Bool.{true}
+use native.Mathlib.Nat.{mul-le-mul, div-le-self}
+use native.Mathlib.Omega.{arith}
+use lib.Dec.{eqb}
+use Rattle.kinds.specs.Ranges.{mostHorizon, mostC, mostP, mostB}
+use Rattle.store.specs.Layout.{Store, bOf, cOf, pOf, routeOf, delayOf, sentOf, horizonOf, fromOf, toOf}
+use Rattle.store.specs.Amounts.{firstReserved, laterReserved, mostReserved, reservedOf, acceptedOf, enteredOf}
+use Rattle.store.specs.Route.{joins}
+
+-- what is reserved is bounded
+module _ (c : ℕ) (m : c ≤ mostC) where
+  pub first-most : (b : ℕ) → b ≤ mostB → firstReserved c b ≤ mostReserved
+  first-most b n = omega (arith, mul-le-mul n m)
+
+  pub later-most : (p h d′ d : ℕ) → h ≤ mostHorizon → d′ ≤ mostP → d ≤ mostP → laterReserved c p h d′ d ≤ mostReserved
+  later-most p h d′ d x y z =
+      let t : 1 + (h + d′ + d - 2) / p ≤ 1 + (mostHorizon + mostP + mostP) = omega (arith, div-le-self (h + d′ + d - 2) p) in
+      mul-le-mul m t
+
+module _ (w : Store) (c : ℕ) where
+  pub reserved-first : (j : ℕ) → j ≡ 0 → reservedOf w c j ≡ firstReserved (cOf w c) (bOf w c)
+  unfolding reservedOf
+  reserved-first zero e = refl
+  reserved-first (suc j) e = absurd (omega arith)
+
+  pub reserved-later : (j : ℕ) → 0 < j
+      → reservedOf w c j ≡ laterReserved (cOf w c) (pOf w c) (horizonOf w (routeOf w c (j - 1))) (delayOf w c (j - 1)) (delayOf w c j)
+  unfolding reservedOf
+  reserved-later zero h = absurd (omega arith)
+  reserved-later (suc j) h =
+      let e : suc j - 1 ≡ j = omega arith in
+      simp e
+
+  pub entered-first : (j : ℕ) → j ≡ 0 → enteredOf w c j ≡ acceptedOf w c
+  unfolding enteredOf
+  entered-first zero e = refl
+  entered-first (suc j) e = absurd (omega arith)
+
+  pub entered-later : (j : ℕ) → 0 < j → enteredOf w c j ≡ sentOf w c (j - 1)
+  unfolding enteredOf
+  entered-later zero h = absurd (omega arith)
+  entered-later (suc j) h =
+      let e : suc j - 1 ≡ j = omega arith in
+      simp e
+
+module _ (w : Store) (route : ℕ → ℕ) where
+  pub joins-first : (j : ℕ) → j ≡ 0 → joins w route j ≡ true
+  unfolding joins
+  joins-first zero e = refl
+  joins-first (suc j) e = absurd (omega arith)
+
+  pub joins-later : (j : ℕ) → 0 < j → joins w route j ≡ eqb (fromOf w (route j)) (toOf w (route (j - 1)))
+  unfolding joins
+  joins-later zero h = absurd (omega arith)
+  joins-later (suc j) h =
+      let e : suc j - 1 ≡ j = omega arith in
+      simp e

@@ -1,0 +1,5 @@
+pub mod Layout
+pub mod Amounts
+pub mod Route
+pub mod Sound
+pub mod Ranged

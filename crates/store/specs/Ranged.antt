@@ -1,0 +1,28 @@
+-- What working with a channel's numbers asks of them, so that no sum comes near 2 ^ 64 and no link is read that is not there.
+use Prim.Native.Nat.{ℕ, _≤_, _<_}
+use Rattle.kinds.specs.Ranges.{mostLinks, mostHorizon, mostChannels, mostHops, mostC, mostP, mostB}
+use mathlib.Core.Path.{_≡_}
+use mathlib.Core.Bool.{true}
+use Rattle.folds.specs.Folds.{every}
+use Rattle.store.specs.Sound.{countsFit, linkFits, channelSound}
+use Rattle.store.specs.Layout.{Store, Long, linksOf, channelsOf, cOf, pOf, bOf, hopsOf, routeOf, delayOf, horizonOf}
+
+pub record Ranged (w : Store) (c : ℕ) : Type 0 where
+  pub long : Long w
+  pub channel : c < mostChannels
+  pub hops-most : hopsOf w c ≤ mostHops
+  pub c-most : cOf w c ≤ mostC
+  pub b-most : bOf w c ≤ mostB
+  pub p-least : 1 ≤ pOf w c
+  pub p-most : pOf w c ≤ mostP
+  pub delay-least : (j : ℕ) → j < hopsOf w c → 1 ≤ delayOf w c j
+  pub delay-most : (j : ℕ) → j < hopsOf w c → delayOf w c j ≤ pOf w c
+  pub route-most : (j : ℕ) → j < hopsOf w c → routeOf w c j < mostLinks
+  pub horizon-most : (j : ℕ) → j < hopsOf w c → horizonOf w (routeOf w c j) ≤ mostHorizon
+
+-- What the rows of links may rely on, and the parts of soundness that are looked at after it.
+pub record Fit (w : Store) : Type 0 where
+  pub long : Long w
+  pub counts : countsFit w ≡ true
+  pub links : every (linkFits w) (linksOf w) ≡ true
+  pub channels : every (channelSound w) (channelsOf w) ≡ true

@@ -1,0 +1,114 @@
+-- Document 01: "A store is sound when: ..". Each part is a test, in the order of that sentence; `soundOf` is all of them. The
+-- parts are defined on any numbers. The code looks at them in this order, and what a part reads is in range once those
+-- before it hold.
+use Prim.Native.Nat.{ℕ, zero, suc, _+_, _-_, _*_}
+use mathlib.Core.Bool.{Bool, true, _&&_, _||_}
+use lib.Dec.{eqb, leb, ltb}
+use lib.ListN.{length}
+use Rattle.kinds.specs.Ranges.{within, inRangeLinks, inRangeChannels, inRangeRows, inRangeHops, isSlot, isNumber}
+use Rattle.kinds.specs.Checks.{linkPasses, channelPasses}
+use Rattle.store.specs.Layout.{Store, storeLength, ring, linksOf, channelsOf, clockOf, fromOf, toOf, horizonOf, bufferOf, rowsOf}
+use Rattle.store.specs.Layout.{rowChannelOf, rowPlaceOf, cOf, pOf, dOf, bOf, hopsOf, messagesOf, routeOf, delayOf, sentOf, timeOf, endOf}
+use Rattle.folds.specs.Folds.{every, some, sumTo}
+use Rattle.store.specs.Route.{routePasses}
+use Rattle.store.specs.Amounts.{reservedOf, acceptedOf, deliveredOf, enteredOf, heldOf}
+
+-- "its length suffices"
+abbrev pub longEnough : Store → Bool
+longEnough w = leb storeLength (length w)
+
+-- "its counts lie within the ranges", "the clock is at most the end slot"
+abbrev pub countsFit : Store → Bool
+countsFit w = inRangeLinks (linksOf w) && (inRangeChannels (channelsOf w) && isSlot (clockOf w))
+
+-- "its links pass 16"; rows are a count too
+abbrev pub linkFits : Store → (l : ℕ) → Bool
+linkFits w l = linkPasses (fromOf w l) (toOf w l) (horizonOf w l) (bufferOf w l) && inRangeRows (rowsOf w l)
+
+-- "its channels pass 1 to 5"
+abbrev pub channelFits : Store → (c : ℕ) → Bool
+channelFits w c =
+    channelPasses (cOf w c) (pOf w c) (dOf w c) (bOf w c) && (inRangeHops (hopsOf w c) && routePasses w (routeOf w c) (hopsOf w c))
+
+-- "delays 1 to p"; and, of the counts: no more has been sent at a place than has come to it
+abbrev pub placeFits : Store → (c j : ℕ) → Bool
+placeFits w c j = within 1 (pOf w c) (delayOf w c j) && leb (sentOf w c j) (enteredOf w c j)
+
+-- all packets of message n, and of those before it, are delivered
+abbrev pub delivered : Store → (c n : ℕ) → Bool
+delivered w c n = leb (endOf w c n) (deliveredOf w c)
+
+-- "messages of one channel on one link have 1 to C packets, logical times at least p apart and rising": message n + 1 and
+-- the one before it, if that is on a link too
+abbrev pub follows : Store → (c n : ℕ) → Bool
+follows w c n =
+    (ltb (endOf w c n) (endOf w c (n + 1)) && leb (endOf w c (n + 1)) (endOf w c n + cOf w c))
+    && (delivered w c n || leb (timeOf w c n + pOf w c) (timeOf w c (n + 1)))
+
+-- message n and those before it, as far as they are not delivered: all that are not are among the `kept` last ones
+unfoldable pub inOrder : Store → (c n kept : ℕ) → Bool
+inOrder w c n zero = delivered w c n
+inOrder w c zero (suc kept) = delivered w c zero
+inOrder w c (suc n) (suc kept) = delivered w c (suc n) || (follows w c n && inOrder w c n kept)
+
+-- "no other slot or message number exceeds 1,000,002,000,000": the last logical time is the largest; and packets accepted
+-- are at most C for each message
+abbrev pub messagesFit : Store → (c : ℕ) → Bool
+messagesFit w c =
+    (isNumber (messagesOf w c) && isNumber (timeOf w c (messagesOf w c)))
+    && (leb (acceptedOf w c) (cOf w c * messagesOf w c) && inOrder w c (messagesOf w c) (ring - 1))
+
+abbrev pub channelSound : Store → (c : ℕ) → Bool
+channelSound w c = channelFits w c && (every (placeFits w c) (hopsOf w c) && messagesFit w c)
+
+-- "each link's rows are exactly the channels routed over it": a row is a channel at a place of its route, and this link is
+-- there; and (`listed`, below) each place of each route is a row of its link
+abbrev pub rowStands : Store → (l k : ℕ) → Bool
+rowStands w l k =
+    ltb (rowChannelOf w l k) (channelsOf w)
+    && (ltb (rowPlaceOf w l k) (hopsOf w (rowChannelOf w l k)) && eqb (routeOf w (rowChannelOf w l k) (rowPlaceOf w l k)) l)
+
+-- the delay of row k
+abbrev pub rowDelayOf : Store → (l k : ℕ) → ℕ
+rowDelayOf w l k = delayOf w (rowChannelOf w l k) (rowPlaceOf w l k)
+
+-- "sorted by delay there and then by channel number"
+unfoldable pub rowFollows : Store → (l k : ℕ) → Bool
+rowFollows w l zero = true
+rowFollows w l (suc k) =
+    ltb (rowDelayOf w l k) (rowDelayOf w l (suc k))
+    || (eqb (rowDelayOf w l k) (rowDelayOf w l (suc k)) && ltb (rowChannelOf w l k) (rowChannelOf w l (suc k)))
+
+-- "reservations are those of the formula below"
+abbrev pub rowReservedOf : Store → (l k : ℕ) → ℕ
+rowReservedOf w l k = reservedOf w (rowChannelOf w l k) (rowPlaceOf w l k)
+
+-- "and together no more packets than reserved"
+abbrev pub rowHolds : Store → (l k : ℕ) → Bool
+rowHolds w l k = leb (heldOf w (rowChannelOf w l k) (rowPlaceOf w l k)) (rowReservedOf w l k)
+
+abbrev pub rowSound : Store → (l k : ℕ) → Bool
+rowSound w l k = rowStands w l k && (rowFollows w l k && rowHolds w l k)
+
+-- "and fit the buffer"
+abbrev pub rowsSound : Store → (l : ℕ) → Bool
+rowsSound w l = every (rowSound w l) (rowsOf w l) && leb (sumTo (rowReservedOf w l) (rowsOf w l)) (bufferOf w l)
+
+-- row k of link l is channel c at place j
+abbrev pub rowIs : Store → (c j l k : ℕ) → Bool
+rowIs w c j l k = eqb (rowChannelOf w l k) c && eqb (rowPlaceOf w l k) j
+
+abbrev pub listed : Store → (c j : ℕ) → Bool
+listed w c j = some (rowIs w c j (routeOf w c j)) (rowsOf w (routeOf w c j))
+
+abbrev pub allListed : Store → (c : ℕ) → Bool
+allListed w c = every (listed w c) (hopsOf w c)
+
+-- a store is sound
+unfoldable pub soundOf : Store → Bool
+soundOf w =
+    longEnough w
+    && (countsFit w
+    && (every (linkFits w) (linksOf w)
+    && (every (channelSound w) (channelsOf w)
+    && (every (rowsSound w) (linksOf w) && every (allListed w) (channelsOf w)))))

@@ -1,0 +1,19 @@
+-- The channels, links, places and rows of a sound store are numbered below the most that there may be.
+use Prim.Native.Nat.{ℕ, _<_}
+use native.Mathlib.Omega.{arith}
+use Rattle.kinds.specs.Ranges.{mostLinks, mostChannels, mostRows, mostHops}
+use Rattle.store.specs.Layout.{Store, linksOf, channelsOf, rowsOf, hopsOf}
+use Rattle.store.proofs.Laws.Sound.{Sound}
+
+module _ {w : Store} (sound : Sound w) where
+  pub few-channels : (c : ℕ) → c < channelsOf w → c < mostChannels
+  few-channels c h = omega (arith, sound .counts .channels-most)
+
+  pub few-links : (l : ℕ) → l < linksOf w → l < mostLinks
+  few-links l h = omega (arith, sound .counts .links-most)
+
+  pub few-places : (c j : ℕ) → c < channelsOf w → j < hopsOf w c → j < mostHops
+  few-places c j h i = omega (arith, sound .channel c h .hops-most)
+
+  pub few-rows : (l k : ℕ) → l < linksOf w → k < rowsOf w l → k < mostRows
+  few-rows l k h i = omega (arith, sound .link l h .rows-most)

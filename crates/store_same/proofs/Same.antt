@@ -1,0 +1,144 @@
+-- Two stores that have the same network, and the same numbers in a channel's record: what is defined of the channel is the same
+-- in both.
+use Prim.Native.Nat.{ℕ, zero, suc, _+_, _-_, _≤_, _<_}
+use mathlib.Core.Path.{_≡_, sym, _∙_}
+use native.Mathlib.Omega.{arith}
+use Rattle.kinds.specs.Ranges.{mostLinks, mostHops}
+use Rattle.store.specs.Layout.{Store, numberAt, channelAt, recordLength, ring}
+use Rattle.store.specs.Layout.{linksOf, channelsOf, fromOf, toOf, horizonOf, bufferOf}
+use Rattle.store.specs.Layout.{cOf, pOf, dOf, bOf, hopsOf, messagesOf, routeOf, delayOf, sentOf, timeOf, endOf}
+use Rattle.store.specs.Layout.{cAt, pAt, dAt, bAt, hopsAt, messagesAt, routeAt, delayAt, sentAt, timeAt, endAt}
+use Rattle.store.specs.Amounts.{reservedOf, acceptedOf, deliveredOf, enteredOf, heldOf}
+use Rattle.store.specs.Sound.{delivered, follows, inOrder}
+use Rattle.store.proofs.Laws.Sound.{Good345, ChannelIs}
+
+-- the links and their own numbers; rows are not among them
+pub record SameNetwork (w w′ : Store) : Type 0 where
+  pub links : linksOf w′ ≡ linksOf w
+  pub from : (l : ℕ) → l < mostLinks → fromOf w′ l ≡ fromOf w l
+  pub to : (l : ℕ) → l < mostLinks → toOf w′ l ≡ toOf w l
+  pub horizon : (l : ℕ) → l < mostLinks → horizonOf w′ l ≡ horizonOf w l
+  pub buffer : (l : ℕ) → l < mostLinks → bufferOf w′ l ≡ bufferOf w l
+
+-- every number of channel c's record
+pub record SameRecord (w w′ : Store) (c : ℕ) : Type 0 where
+  pub number : (at : ℕ) → channelAt c ≤ at → at < channelAt c + recordLength → numberAt w′ at ≡ numberAt w at
+
+-- w′ has the network and the channels of w; it may have more channels
+pub record Keeps (w w′ : Store) : Type 0 where
+  pub network : SameNetwork w w′
+  pub more : channelsOf w ≤ channelsOf w′
+  pub channel : (c : ℕ) → c < channelsOf w → SameRecord w w′ c
+
+-- a route that passes 3, 4 and 5
+pub good-same : {w w′ : Store} → SameNetwork w w′ → linksOf w ≤ mostLinks → (route route′ : ℕ → ℕ) (n : ℕ)
+    → ((j : ℕ) → j < n → route′ j ≡ route j) → Good345 w route n → Good345 w′ route′ n
+good-same network few route route′ n same g = record {
+  known = λ j h. rw (same j h, network .links) (g .known j h);
+  new = λ j i h l e. g .new j i h l (sym (same i (omega arith)) ∙ (e ∙ same j h));
+  joined = λ j h.
+      rw (same (suc j) h, same j (omega arith), network .from _ (most (suc j) h), network .to _ (most j (omega arith)))
+      (g .joined j h);
+}
+  where
+    most : (j : ℕ) → j < n → route j < mostLinks
+    most j h = omega (arith, g .known j h)
+
+module _ {w w′ : Store} {c : ℕ} (same : SameRecord w w′ c) where
+  -- each field
+  pub c-same : cOf w′ c ≡ cOf w c
+  c-same = same .number (cAt c) (omega arith) (omega arith)
+
+  pub p-same : pOf w′ c ≡ pOf w c
+  p-same = same .number (pAt c) (omega arith) (omega arith)
+
+  pub d-same : dOf w′ c ≡ dOf w c
+  d-same = same .number (dAt c) (omega arith) (omega arith)
+
+  pub b-same : bOf w′ c ≡ bOf w c
+  b-same = same .number (bAt c) (omega arith) (omega arith)
+
+  pub hops-same : hopsOf w′ c ≡ hopsOf w c
+  hops-same = same .number (hopsAt c) (omega arith) (omega arith)
+
+  pub messages-same : messagesOf w′ c ≡ messagesOf w c
+  messages-same = same .number (messagesAt c) (omega arith) (omega arith)
+
+  pub route-same : (j : ℕ) → j < mostHops → routeOf w′ c j ≡ routeOf w c j
+  route-same j h = same .number (routeAt c j) (omega arith) (omega arith)
+
+  pub delay-same : (j : ℕ) → j < mostHops → delayOf w′ c j ≡ delayOf w c j
+  delay-same j h = same .number (delayAt c j) (omega arith) (omega arith)
+
+  pub sent-same : (j : ℕ) → j < mostHops → sentOf w′ c j ≡ sentOf w c j
+  sent-same j h = same .number (sentAt c j) (omega arith) (omega arith)
+
+  pub time-same : (n : ℕ) → timeOf w′ c n ≡ timeOf w c n
+  time-same n = same .number (timeAt c n) (omega arith) (omega arith)
+
+  pub end-same : (n : ℕ) → endOf w′ c n ≡ endOf w c n
+  end-same n = same .number (endAt c n) (omega arith) (omega arith)
+
+  -- each amount
+  pub accepted-same : acceptedOf w′ c ≡ acceptedOf w c
+  accepted-same = rw messages-same (end-same (messagesOf w c))
+
+  pub entered-same : (j : ℕ) → j < mostHops → enteredOf w′ c j ≡ enteredOf w c j
+  unfolding enteredOf
+  entered-same zero h = accepted-same
+  entered-same (suc j) h = sent-same j (omega arith)
+
+  pub held-same : (j : ℕ) → j < mostHops → heldOf w′ c j ≡ heldOf w c j
+  held-same j h = rw (entered-same j h, sent-same j h)
+
+  -- the order of its messages
+  module _ (few : hopsOf w c ≤ mostHops) where
+    pub delivered-same : deliveredOf w′ c ≡ deliveredOf w c
+    delivered-same = rw hops-same (sent-same (hopsOf w c - 1) (omega arith))
+
+    past-same : (n : ℕ) → delivered w′ c n ≡ delivered w c n
+    past-same n = rw (end-same n, delivered-same)
+
+    follows-same : (n : ℕ) → follows w′ c n ≡ follows w c n
+    follows-same n =
+        rw (past-same n, end-same n, end-same (n + 1), time-same n, time-same (n + 1), c-same, p-same)
+
+    pub order-same : (n kept : ℕ) → inOrder w′ c n kept ≡ inOrder w c n kept
+    unfolding inOrder
+    order-same zero zero = past-same 0
+    order-same zero (suc k) = past-same 0
+    order-same (suc n) zero = past-same (suc n)
+    order-same (suc n) (suc k) = rw (past-same (suc n), follows-same n, order-same n k)
+
+  -- Of a sound record in a sound network: what is reserved, and that it stays sound.
+  module _ (network : SameNetwork w w′) (few : linksOf w ≤ mostLinks) (k : ChannelIs w c) where
+    pub reserved-same : (j : ℕ) → j < hopsOf w c → reservedOf w′ c j ≡ reservedOf w c j
+    unfolding reservedOf
+    reserved-same zero h = rw (c-same, b-same)
+    reserved-same (suc j) h =
+        let i : suc j < mostHops = omega (arith, k .hops-most) in
+        let l : j < mostHops = omega arith in
+        let m : routeOf w c j < mostLinks = omega (arith, k .route .known j (omega arith)) in
+        rw (c-same, p-same, route-same j l, network .horizon (routeOf w c j) m, delay-same j l, delay-same (suc j) i)
+
+    pub channel-same : ChannelIs w′ c
+    channel-same = record {
+      good = rw (c-same, p-same, d-same, b-same) (k .good);
+      hops-least = rw hops-same (k .hops-least);
+      hops-most = rw hops-same (k .hops-most);
+      route = rw hops-same
+          (good-same network few (routeOf w c) (routeOf w′ c) (hopsOf w c) (λ j h. route-same j (inside j h)) (k .route));
+      delay-least = λ j h. let i = old j h in rw (delay-same j (inside j i)) (k .delay-least j i);
+      delay-most = λ j h. let i = old j h in rw (delay-same j (inside j i), p-same) (k .delay-most j i);
+      flows = λ j h. let i = old j h in rw (sent-same j (inside j i), entered-same j (inside j i)) (k .flows j i);
+      messages-most = rw messages-same (k .messages-most);
+      time-most = rw (messages-same, time-same (messagesOf w c)) (k .time-most);
+      accepted-most = rw (accepted-same, c-same, messages-same) (k .accepted-most);
+      order = rw (messages-same, order-same (k .hops-most) (messagesOf w c) (ring - 1)) (k .order);
+    }
+      where
+        inside : (j : ℕ) → j < hopsOf w c → j < mostHops
+        inside j h = omega (arith, k .hops-most)
+
+        old : (j : ℕ) → j < hopsOf w′ c → j < hopsOf w c
+        old j h = rw hops-same at h

@@ -1,0 +1,236 @@
+-- Two stores of which the second has all that set-up and opens have settled in the first: the network, every link's rows, and
+-- each channel's numbers, route and delays. Only the clock, and how far channels are, may differ. Such a store is sound where
+-- those are.
+use Prim.Native.Nat.{ℕ, zero, suc, _+_, _-_, _*_, _≤_, _<_}
+use mathlib.Core.Path.{_≡_}
+use mathlib.Core.Bool.{true}
+use native.Mathlib.Omega.{arith}
+use lib.ListN.{length}
+use Rattle.kinds.specs.Ranges.{mostLinks, mostChannels, mostRows, mostHops, mostNumber, endSlot}
+use Rattle.store.specs.Layout.{Store, ring, numberAt, channelAt, linksAt, channelsAt, clockAt, fromAt, toAt, horizonAt, bufferAt}
+use Rattle.store.specs.Layout.{rowsAt, rowChannelAt, rowPlaceAt, cAt, messagesAt, routeAt, delayAt, sentAt, courseEnd}
+use Rattle.store.specs.Layout.{linksOf, channelsOf, clockOf, rowsOf, rowChannelOf, rowPlaceOf}
+use Rattle.store.specs.Layout.{cOf, pOf, dOf, bOf, hopsOf, messagesOf, routeOf, delayOf, sentOf, timeOf}
+use Rattle.folds.specs.Folds.{sumTo}
+use Rattle.store.specs.Amounts.{reservedOf, acceptedOf, enteredOf, heldOf}
+use Rattle.store.specs.Sound.{inOrder, rowDelayOf, rowReservedOf}
+use Rattle.folds.proofs.Folds.{sum-mono}
+use Rattle.store.proofs.Laws.Sound.{LinkIs, ChannelIs, RowIs, Before, RowsAre, RowFor, Sound}
+use Rattle.store_same.proofs.Few.{few-channels, few-links, few-places, few-rows}
+use Rattle.store_same.proofs.Same.{SameNetwork, good-same}
+
+-- one frame for every number that offers and slots leave alone
+pub record Settled (w w′ : Store) : Type 0 where
+  pub as-long : length w′ ≡ length w
+  pub frame : (at : ℕ) → (at ≡ clockAt → ⊥)
+      → ((c : ℕ) → c < mostChannels → at ≡ messagesAt c → ⊥)
+      → ((c : ℕ) → c < mostChannels → sentAt c 0 ≤ at → at < courseEnd c → ⊥)
+      → numberAt w′ at ≡ numberAt w at
+
+-- of a channel that is sound, what may differ: how far it is
+pub record CourseIs (w : Store) (c : ℕ) : Type 0 where
+  pub flows : (j : ℕ) → j < hopsOf w c → sentOf w c j ≤ enteredOf w c j
+  pub messages-most : messagesOf w c ≤ mostNumber
+  pub time-most : timeOf w c (messagesOf w c) ≤ mostNumber
+  pub accepted-most : acceptedOf w c ≤ cOf w c * messagesOf w c
+  pub order : inOrder w c (messagesOf w c) (ring - 1) ≡ true
+
+module _ {w w′ : Store} (s : Settled w w′) where
+  -- below the channels' records only the clock differs
+  low-same : (at : ℕ) → (at ≡ clockAt → ⊥) → at < channelAt 0 → numberAt w′ at ≡ numberAt w at
+  low-same at other low = s .frame at other (λ c h e. omega arith) (λ c h a b. omega arith)
+
+  pub links-same : linksOf w′ ≡ linksOf w
+  links-same = low-same linksAt (λ e. omega arith) (omega arith)
+
+  pub channels-same : channelsOf w′ ≡ channelsOf w
+  channels-same = low-same channelsAt (λ e. omega arith) (omega arith)
+
+  module _ (l : ℕ) (h : l < mostLinks) where
+    pub rows-same : rowsOf w′ l ≡ rowsOf w l
+    rows-same = low-same (rowsAt l) (λ e. omega arith) (omega arith)
+
+    pub row-channel-same : (k : ℕ) → k < mostRows → rowChannelOf w′ l k ≡ rowChannelOf w l k
+    row-channel-same k i = low-same (rowChannelAt l k) (λ e. omega arith) (omega arith)
+
+    pub row-place-same : (k : ℕ) → k < mostRows → rowPlaceOf w′ l k ≡ rowPlaceOf w l k
+    row-place-same k i = low-same (rowPlaceAt l k) (λ e. omega arith) (omega arith)
+
+  pub network-same : SameNetwork w w′
+  network-same = record {
+    links = links-same;
+    from = λ l h. low-same (fromAt l) (λ e. omega arith) (omega arith);
+    to = λ l h. low-same (toAt l) (λ e. omega arith) (omega arith);
+    horizon = λ l h. low-same (horizonAt l) (λ e. omega arith) (omega arith);
+    buffer = λ l h. low-same (bufferAt l) (λ e. omega arith) (omega arith);
+  }
+
+  module _ (c : ℕ) (h : c < mostChannels) where
+    -- of its record, the numbers at the front but for how many messages there are
+    front-same : (i : ℕ) → i < 24 → (i ≡ 5 → ⊥) → numberAt w′ (channelAt c + i) ≡ numberAt w (channelAt c + i)
+    front-same i a other = s .frame (channelAt c + i) (λ e. omega arith) (λ x y e. omega arith) (λ x y l m. omega arith)
+
+    pub c-kept : cOf w′ c ≡ cOf w c
+    c-kept = s .frame (cAt c) (λ e. omega arith) (λ x y e. omega arith) (λ x y l m. omega arith)
+
+    pub p-kept : pOf w′ c ≡ pOf w c
+    p-kept = front-same 1 (omega arith) (λ e. omega arith)
+
+    pub d-kept : dOf w′ c ≡ dOf w c
+    d-kept = front-same 2 (omega arith) (λ e. omega arith)
+
+    pub b-kept : bOf w′ c ≡ bOf w c
+    b-kept = front-same 3 (omega arith) (λ e. omega arith)
+
+    pub hops-kept : hopsOf w′ c ≡ hopsOf w c
+    hops-kept = front-same 4 (omega arith) (λ e. omega arith)
+
+    pub route-kept : (j : ℕ) → j < mostHops → routeOf w′ c j ≡ routeOf w c j
+    route-kept j i = s .frame (routeAt c j) (λ e. omega arith) (λ x y e. omega arith) (λ x y l m. omega arith)
+
+    pub delay-kept : (j : ℕ) → j < mostHops → delayOf w′ c j ≡ delayOf w c j
+    delay-kept j i = s .frame (delayAt c j) (λ e. omega arith) (λ x y e. omega arith) (λ x y l m. omega arith)
+
+  -- of a sound store
+  module _ (sound : Sound w) where
+    module _ (c : ℕ) (h : c < channelsOf w) where
+      pub reserved-kept : (j : ℕ) → j < hopsOf w c → reservedOf w′ c j ≡ reservedOf w c j
+      unfolding reservedOf
+      reserved-kept zero i = rw (c-kept c (few-channels sound c h), b-kept c (few-channels sound c h))
+      reserved-kept (suc j) i =
+          let a : c < mostChannels = few-channels sound c h in
+          let l : suc j < mostHops = few-places sound c (suc j) h i in
+          let n : j < mostHops = few-places sound c j h (omega arith) in
+          let m : routeOf w c j < mostLinks =
+          few-links sound (routeOf w c j) (sound .channel c h .route .known j (omega arith)) in
+          rw (c-kept c a, p-kept c a, route-kept c a j n, network-same .horizon (routeOf w c j) m, delay-kept c a j n)
+          (rw (delay-kept c a (suc j) l))
+
+      pub channel-kept : CourseIs w′ c → ChannelIs w′ c
+      channel-kept k = record {
+        good = rw (c-kept c a, p-kept c a, d-kept c a, b-kept c a) (old .good);
+        hops-least = rw (hops-kept c a) (old .hops-least);
+        hops-most = rw (hops-kept c a) (old .hops-most);
+        route = rw (hops-kept c a)
+            (good-same network-same (sound .counts .links-most) (routeOf w c) (routeOf w′ c) (hopsOf w c)
+            (λ j i. route-kept c a j (few-places sound c j h i)) (old .route));
+        delay-least = λ j i. let n = inside j i in rw (delay-kept c a j (few-places sound c j h n)) (old .delay-least j n);
+        delay-most = λ j i.
+            let n = inside j i in
+            rw (delay-kept c a j (few-places sound c j h n), p-kept c a) (old .delay-most j n);
+        flows = k .flows;
+        messages-most = k .messages-most;
+        time-most = k .time-most;
+        accepted-most = k .accepted-most;
+        order = k .order;
+      }
+        where
+          a : c < mostChannels
+          a = few-channels sound c h
+
+          old : ChannelIs w c
+          old = sound .channel c h
+
+          inside : (j : ℕ) → j < hopsOf w′ c → j < hopsOf w c
+          inside j i = rw (hops-kept c a) at i
+
+    -- a row of link l, as before
+    module _ (l : ℕ) (h : l < linksOf w) where
+      pub same-channel : (k : ℕ) → k < rowsOf w l → rowChannelOf w′ l k ≡ rowChannelOf w l k
+      same-channel k i = row-channel-same l (few-links sound l h) k (few-rows sound l k h i)
+
+      pub same-place : (k : ℕ) → k < rowsOf w l → rowPlaceOf w′ l k ≡ rowPlaceOf w l k
+      same-place k i = row-place-same l (few-links sound l h) k (few-rows sound l k h i)
+
+      module _ (k : ℕ) (i : k < rowsOf w l) where
+        old : RowIs w l k
+        old = sound .rows l h .rows k i
+
+        few : rowChannelOf w l k < mostChannels
+        few = few-channels sound (rowChannelOf w l k) (old .channel)
+
+        near : rowPlaceOf w l k < mostHops
+        near = few-places sound (rowChannelOf w l k) (rowPlaceOf w l k) (old .channel) (old .place)
+
+        pub row-kept : RowIs w′ l k
+        row-kept = record {
+          channel = rw (same-channel k i, channels-same) (old .channel);
+          place = rw (same-channel k i, same-place k i, hops-kept (rowChannelOf w l k) few) (old .place);
+          here = rw (same-channel k i, same-place k i, route-kept (rowChannelOf w l k) few (rowPlaceOf w l k) near) (old .here);
+        }
+
+        pub row-delay-kept : rowDelayOf w′ l k ≡ rowDelayOf w l k
+        row-delay-kept = rw (same-channel k i, same-place k i) (delay-kept (rowChannelOf w l k) few (rowPlaceOf w l k) near)
+
+        pub row-reserved-kept : rowReservedOf w′ l k ≡ rowReservedOf w l k
+        row-reserved-kept =
+            rw (same-channel k i, same-place k i)
+            (reserved-kept (rowChannelOf w l k) (old .channel) (rowPlaceOf w l k) (old .place))
+
+    -- the store is sound where each channel's course is and no place holds more than is reserved there
+    module _ (clock : clockOf w′ ≤ endSlot) (course : (c : ℕ) → c < channelsOf w → CourseIs w′ c)
+        (held : (c j : ℕ) → c < channelsOf w → j < hopsOf w c → heldOf w′ c j ≤ reservedOf w c j) where
+      rows-kept : (l : ℕ) → l < linksOf w → RowsAre w′ l
+      rows-kept l h = record {
+        rows = λ k i. row-kept l h k (inside-old k i);
+        sorted = λ k i. order k (inside-old (suc k) i) (omega (arith, inside-old (suc k) i));
+        holds = λ k i. holds k (inside-old k i);
+        fits = rw (rows-same l (few-links sound l h), network-same .buffer l (few-links sound l h))
+            (omega (arith, sound .rows l h .fits, no-more));
+      }
+        where
+          inside-old : (k : ℕ) → k < rowsOf w′ l → k < rowsOf w l
+          inside-old k i = rw (rows-same l (few-links sound l h)) at i
+
+          no-more : sumTo (rowReservedOf w′ l) (rowsOf w l) ≤ sumTo (rowReservedOf w l) (rowsOf w l)
+          no-more =
+              sum-mono (rowReservedOf w′ l) (rowReservedOf w l) (rowsOf w l) (λ k i. omega (arith, row-reserved-kept l h k i))
+
+          order : (k : ℕ) → suc k < rowsOf w l → k < rowsOf w l
+              → Before (rowDelayOf w′ l k) (rowChannelOf w′ l k) (rowDelayOf w′ l (suc k)) (rowChannelOf w′ l (suc k))
+          order k i i′ =
+              rw (row-delay-kept l h k i′, row-delay-kept l h (suc k) i, same-channel l h k i′, same-channel l h (suc k) i)
+              (sound .rows l h .sorted k i)
+
+          holds : (k : ℕ) → k < rowsOf w l → heldOf w′ (rowChannelOf w′ l k) (rowPlaceOf w′ l k) ≤ rowReservedOf w′ l k
+          holds k i =
+              rw (row-reserved-kept l h k i, same-channel l h k i, same-place l h k i)
+              (held (rowChannelOf w l k) (rowPlaceOf w l k) (old l h k i .channel) (old l h k i .place))
+
+      pub settled-sound : Sound w′
+      settled-sound = record {
+        long = omega (arith, s .as-long, sound .long);
+        counts = record {
+          links-least = rw links-same (sound .counts .links-least);
+          links-most = rw links-same (sound .counts .links-most);
+          channels-most = rw channels-same (sound .counts .channels-most);
+          clock-most = clock;
+        };
+        link = λ l i. link l (rw links-same at i);
+        channel = λ c i. let h = rw channels-same at i in channel-kept c h (course c h);
+        rows = λ l i. rows-kept l (rw links-same at i);
+        row = λ c j i k. row c j (rw channels-same at i) k;
+      }
+        where
+          link : (l : ℕ) → l < linksOf w → LinkIs w′ l
+          link l h =
+              let a : l < mostLinks = few-links sound l h in
+              record {
+                good = rw (network-same .from l a, network-same .to l a, network-same .horizon l a, network-same .buffer l a)
+                    (sound .link l h .good);
+                rows-most = rw (rows-same l a) (sound .link l h .rows-most);
+              }
+
+          row : (c j : ℕ) → c < channelsOf w → j < hopsOf w′ c → RowFor w′ c j (routeOf w′ c j)
+          row c j h i =
+              let a : c < mostChannels = few-channels sound c h in
+              let k : j < hopsOf w c = rw (hops-kept c a) at i in
+              let x = sound .row c j h k in
+              let m : routeOf w c j < linksOf w = sound .channel c h .route .known j k in
+              rw (route-kept c a j (few-places sound c j h k))
+              (record {
+                at = x .at;
+                inside = rw (rows-same (routeOf w c j) (few-links sound (routeOf w c j) m)) (x .inside);
+                channel = rw (same-channel (routeOf w c j) m (x .at) (x .inside)) (x .channel);
+                place = rw (same-place (routeOf w c j) m (x .at) (x .inside)) (x .place);
+              })

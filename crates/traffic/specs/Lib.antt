@@ -1,5 +1,0 @@
-pub mod Offer
-pub mod Head
-pub mod Pick
-pub mod Slot
-pub mod Idle

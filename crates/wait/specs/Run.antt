@@ -1,9 +1,0 @@
--- Slots run one after the other, with nothing offered between them.
-use Prim.Native.Nat.{ℕ, zero, suc}
-use Rattle.room.specs.Layout.{Store}
-use Rattle.traffic.specs.Slot.{slotStore}
-
--- the store after n of them; `room` is the length of the output lent to each
-unfoldable pub run : Store → (room n : ℕ) → Store
-run w room zero = w
-run w room (suc n) = slotStore (run w room n) room
