@@ -1,5 +1,5 @@
 -- What a sound store gives to code that works with channel c: what may be read, and bounds that no sum passes.
-use Prim.Native.Nat.{ℕ, _+_, _-_, _*_, _≤_, _<_}
+use Prim.Native.Nat.{ℕ, _+_, _*_, _≤_, _<_}
 use mathlib.Core.Path.{_≡_}
 use mathlib.Core.Bool.{true}
 use native.Mathlib.Nat.{mul-le-mul}
@@ -7,14 +7,14 @@ use native.Mathlib.Omega.{arith}
 use mir.Syntax.{w64}
 use mir.Val.{Fits}
 use Rattle.kinds.specs.Ranges.{mostChannels, mostC, mostP, mostB, mostNumber}
-use Rattle.store.specs.Layout.{Store, Long, channelsOf, cOf, pOf, messagesOf, timeOf, endOf}
+use Rattle.store.specs.Layout.{Store, Long, cOf, pOf, messagesOf, timeOf, endOf, IsChannel}
 use Rattle.store.specs.Amounts.{acceptedOf, heldOf}
 use Rattle.store.specs.Ranged.{Ranged}
 use Rattle.store.specs.Sound.{soundOf}
 use Rattle.store.proofs.Laws.Sound.{ChannelIs, sound-is, sound-fit, fit-ranged}
 use Rattle.slot_rules.proofs.Laws.Head.{entered-most}
 
-module _ (w : Store) (c : ℕ) (sound : soundOf w ≡ true) (h : c < channelsOf w) where
+module _ (w : Store) (c : ℕ) (sound : soundOf w ≡ true) (h : IsChannel w c) where
   pub long : Long w
   long = sound-is w sound .long
 

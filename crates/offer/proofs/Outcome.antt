@@ -7,7 +7,7 @@ use lib.ListN.{take, drop}
 use borrow.Author.Tests.{ltb-true}
 use Rattle.kinds.specs.Ranges.{endSlot}
 use Rattle.kinds.proofs.Laws.{within-true}
-use Rattle.store.specs.Layout.{Store, channelsOf, clockOf, cOf, messagesOf}
+use Rattle.store.specs.Layout.{Store, channelsOf, clockOf, cOf, messagesOf, IsChannel}
 use Rattle.store.specs.Sound.{soundOf}
 use Rattle.checks.specs.Checks.{Check}
 use Rattle.checks.proofs.Laws.{AllHold, all-passed, fails-after}
@@ -20,7 +20,7 @@ use Rattle.offer_keeps.proofs.Sound.{offered-sound}
 pub record Passed (w : Store) (c packets : ℕ) : Type 0 where
   pub sound : soundOf w ≡ true
   pub running : clockOf w < endSlot
-  pub known : c < channelsOf w
+  pub known : IsChannel w c
   pub least : 1 ≤ packets
   pub most : packets ≤ cOf w c
   pub burst : inBurst w c ≡ true

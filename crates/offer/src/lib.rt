@@ -6,9 +6,9 @@ use store::channel;
 use store::head;
 ghost use mathlib.Core.Path.{_≡_};
 ghost use mathlib.Core.Bool.{true};
-ghost use Prim.Native.Nat.{_≤_, _<_};
+ghost use Prim.Native.Nat.{_≤_};
 ghost use Rattle.kinds.specs.Ranges.{within};
-ghost use Rattle.store.specs.Layout.{channelsOf, cOf, messagesOf};
+ghost use Rattle.store.specs.Layout.{cOf, messagesOf, IsChannel};
 ghost use Rattle.store.specs.Sound.{soundOf};
 ghost use Rattle.offer_rules.specs.Offer.{offerTime, inBurst, offered, offerAnswer, offerStore};
 ghost use Rattle.offer_keeps.specs.Room.{hasRoom};
@@ -16,7 +16,7 @@ ghost use Rattle.offer_keeps.specs.Room.{hasRoom};
 // 12: whether a message has 1 to C packets.
 fn is_message(store: &[u64], c: usize, packets: u64) -> bool
     requires { ⌜ soundOf (now store) ≡ true ⌝ }
-    requires { ⌜ c < channelsOf (now store) ⌝ }
+    requires { ⌜ IsChannel (now store) c ⌝ }
     ensures { λ r. ⌜ r ≡ within 1 (cOf (now (store .entry)) c) packets ⌝ }
 {
     packets > 0 && packets <= channel::c(store, c)
@@ -25,7 +25,7 @@ fn is_message(store: &[u64], c: usize, packets: u64) -> bool
 // The logical time of the next message: the present slot, or p after the last message if that is later.
 fn next_time(store: &[u64], c: usize) -> u64
     requires { ⌜ soundOf (now store) ≡ true ⌝ }
-    requires { ⌜ c < channelsOf (now store) ⌝ }
+    requires { ⌜ IsChannel (now store) c ⌝ }
     ensures { λ r. ⌜ r ≡ offerTime (now (store .entry)) c ⌝ }
 {
     let clock = head::clock(store);
@@ -40,7 +40,7 @@ fn next_time(store: &[u64], c: usize) -> u64
 // 13: whether a message at that time is within the burst.
 fn in_burst(store: &[u64], c: usize, time: u64) -> bool
     requires { ⌜ soundOf (now store) ≡ true ⌝ }
-    requires { ⌜ c < channelsOf (now store) ⌝ }
+    requires { ⌜ IsChannel (now store) c ⌝ }
     requires { ⌜ time ≡ offerTime (now store) c ⌝ }
     ensures { λ r. ⌜ r ≡ inBurst (now (store .entry)) c ⌝ }
 {
@@ -51,7 +51,7 @@ fn in_burst(store: &[u64], c: usize, time: u64) -> bool
 // 17, looked at last: whether one message more may be counted and kept, and its packets held.
 fn has_room(store: &[u64], c: usize, packets: u64) -> bool
     requires { ⌜ soundOf (now store) ≡ true ⌝ }
-    requires { ⌜ c < channelsOf (now store) ⌝ }
+    requires { ⌜ IsChannel (now store) c ⌝ }
     requires { ⌜ packets ≤ cOf (now store) c ⌝ }
     ensures { λ r. ⌜ r ≡ hasRoom (now (store .entry)) c packets ⌝ }
 {
@@ -97,7 +97,7 @@ fn answer(store: &[u64], c: u64, packets: u64) -> Offered
 // What an accepted message writes: its logical time, its end, and that there is one message more. `n` are those before it.
 fn put_message(store: &mut [u64], c: usize, n: u64, time: u64, packets: u64)
     requires { ⌜ soundOf (now store) ≡ true ⌝ }
-    requires { ⌜ c < channelsOf (now store) ⌝ }
+    requires { ⌜ IsChannel (now store) c ⌝ }
     requires { ⌜ packets ≤ cOf (now store) c ⌝ }
     requires { ⌜ n ≡ messagesOf (now store) c ⌝ }
     requires { ⌜ time ≡ offerTime (now store) c ⌝ }

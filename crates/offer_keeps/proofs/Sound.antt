@@ -8,13 +8,14 @@ use native.Mathlib.Omega.{arith}
 use lib.Dec.{leb}
 use borrow.Author.Tests.{leb-true, le-leb}
 use Rattle.kinds.specs.Ranges.{mostChannels, mostHops, mostB, mostNumber, endSlot, isNumber}
-use Rattle.store.specs.Layout.{Store, ring, channelsOf, clockOf, cOf, pOf, bOf, hopsOf, messagesOf}
+use Rattle.store.specs.Layout.{Store, ring, clockOf, cOf, pOf, bOf, hopsOf, messagesOf, IsChannel}
 use Rattle.store.specs.Amounts.{reservedOf, enteredOf, heldOf}
 use Rattle.store.specs.Sound.{inOrder, soundOf}
 use Rattle.folds.proofs.Folds.{one-test}
 use Rattle.store.proofs.Laws.Sound.{both, ChannelIs, Sound, sound-is, is-sound, held-most}
 use Rattle.store_same.proofs.Same.{channel-same, held-same}
-use Rattle.store_same.proofs.Settled.{Settled, CourseIs, network-same, channels-same, c-kept, hops-kept, reserved-kept, settled-sound}
+use Rattle.store_same.proofs.Settled.{Settled, CourseIs, network-same, channels-same, c-kept, hops-kept, reserved-kept}
+use Rattle.store_same.proofs.Settled.{settled-sound}
 use Rattle.offer_rules.specs.Offer.{offerTime, inBurst, offered}
 use Rattle.offer_keeps.specs.Room.{hasRoom}
 use Rattle.offer_keeps.proofs.Frame.{offered-clock, offered-other, offered-settled, offered-messages, offered-time}
@@ -31,7 +32,7 @@ course-of k = record {
   order = k .order;
 }
 
-module _ (w : Store) (c packets : ℕ) (sound : soundOf w ≡ true) (clock : clockOf w < endSlot) (h : c < channelsOf w)
+module _ (w : Store) (c packets : ℕ) (sound : soundOf w ≡ true) (clock : clockOf w < endSlot) (h : IsChannel w c)
     (least : 1 ≤ packets) (most : packets ≤ cOf w c) (burst : inBurst w c ≡ true) where
   abbrev later : Store
   later = offered w c packets
@@ -86,7 +87,7 @@ module _ (w : Store) (c packets : ℕ) (sound : soundOf w ≡ true) (clock : clo
       order = rw (offered-messages w c packets few (s .long)) (order-is ∙ kept .0);
     }
 
-    course : (x : ℕ) → x < channelsOf w → CourseIs later x
+    course : (x : ℕ) → IsChannel w x → CourseIs later x
     course x i = go (ℕ-discrete x c)
       where
         go : Dec (x ≡ c) → CourseIs later x
@@ -95,7 +96,7 @@ module _ (w : Store) (c packets : ℕ) (sound : soundOf w ≡ true) (clock : clo
             let same = offered-other w c packets x e in
             course-of (channel-same same (network-same settled) (s .counts .links-most) (s .channel x i))
 
-    held : (x j : ℕ) → x < channelsOf w → j < hopsOf w x → heldOf later x j ≤ reservedOf w x j
+    held : (x j : ℕ) → IsChannel w x → j < hopsOf w x → heldOf later x j ≤ reservedOf w x j
     held x j i l = go (ℕ-discrete x c) j l
       where
         go : Dec (x ≡ c) → (j : ℕ) → j < hopsOf w x → heldOf later x j ≤ reservedOf w x j
@@ -114,7 +115,7 @@ module _ (w : Store) (c packets : ℕ) (sound : soundOf w ≡ true) (clock : clo
   room-before : soundOf later ≡ true → hasRoom w c packets ≡ true
   room-before e =
       let t = sound-is later e in
-      let i : c < channelsOf later = rw (channels-same settled) h in
+      let i : IsChannel later c = rw (channels-same settled) h in
       let o = t .channel c i in
       let f = held-most t c 0 i (o .hops-least) in
       let g : heldOf w c 0 + packets ≤ reservedOf w c 0 =

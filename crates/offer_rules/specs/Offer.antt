@@ -4,7 +4,7 @@ use mathlib.Core.Bool.{Bool}
 use mathlib.Core.List.{List, [], _∷_}
 use lib.Dec.{leb, ltb}
 use Rattle.kinds.specs.Ranges.{within, endSlot}
-use Rattle.store.specs.Layout.{Store, channelsOf, clockOf, cOf, pOf, bOf, messagesOf, timeOf, withMessages, withTime, withEnd}
+use Rattle.store.specs.Layout.{Store, clockOf, cOf, pOf, bOf, messagesOf, timeOf, withMessages, withTime, withEnd, isChannel}
 use Rattle.store.specs.Amounts.{acceptedOf}
 use Rattle.store.specs.Sound.{soundOf}
 use Rattle.checks.specs.Checks.{Check, check, firstFailed}
@@ -35,7 +35,7 @@ abbrev pub offerChecks : Store → (c packets : ℕ) → List Check
 offerChecks w c packets =
     check 17 (soundOf w)
     ∷ (check 14 (ltb (clockOf w) endSlot)
-    ∷ (check 11 (ltb c (channelsOf w))
+    ∷ (check 11 (isChannel w c)
     ∷ (check 12 (within 1 (cOf w c) packets)
     ∷ (check 13 (inBurst w c)
     ∷ (check 17 (soundOf (offered w c packets))

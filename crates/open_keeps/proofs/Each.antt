@@ -3,7 +3,7 @@ use Prim.Native.Nat.{ℕ, _<_}
 use mathlib.Core.Path.{subst}
 use mathlib.Core.Logic.{⊎-elim}
 use native.Mathlib.Omega.{arith}
-use Rattle.store.specs.Layout.{Store, linksOf, channelsOf}
+use Rattle.store.specs.Layout.{Store, linksOf, channelsOf, IsChannel}
 use Rattle.folds.proofs.Folds.{below}
 use Rattle.open_rules.specs.Request.{Request, hops, link}
 use Rattle.open_keeps.proofs.Place.{Away, place-of}
@@ -17,7 +17,7 @@ module _ {w w′ : Store} {q : Request} {d : ℕ → ℕ} (o : Opened w w′ q d
       (away l (rw (links-kept o) at h))
       (place-of (link q) (hops q) l)
 
-  pub each-channel : (P : ℕ → Type 0) → ((c : ℕ) → c < channelsOf w → P c) → P (channelsOf w)
-      → (c : ℕ) → c < channelsOf w′ → P c
+  pub each-channel : (P : ℕ → Type 0) → ((c : ℕ) → IsChannel w c → P c) → P (channelsOf w)
+      → (c : ℕ) → IsChannel w′ c → P c
   each-channel P old new c h =
       below c (channelsOf w) (omega (arith, o .after .channels)) (old c) (λ e. rw e new)

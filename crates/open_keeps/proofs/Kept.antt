@@ -4,8 +4,8 @@ use Prim.Native.Nat.{ℕ, _+_, _≤_, _<_}
 use mathlib.Core.Path.{_≡_}
 use native.Mathlib.Omega.{arith}
 use Rattle.kinds.specs.Ranges.{mostLinks}
-use Rattle.store.specs.Layout.{Store, numberAt, linkAt, channelAt, channelsAt, recordLength, channelsOf, linksOf, clockOf}
-use Rattle.store.specs.Layout.{rowsAt, rowsEnd, linksAt, clockAt, fromAt, toAt, horizonAt, bufferAt}
+use Rattle.store.specs.Layout.{Store, numberAt, linkAt, channelAt, channelsAt, recordLength, channelsOf, linksOf, clockOf, rowsAt}
+use Rattle.store.specs.Layout.{rowsEnd, linksAt, clockAt, fromAt, toAt, horizonAt, bufferAt, IsChannel}
 use Rattle.store.proofs.Laws.Sound.{Sound, sound-is}
 use Rattle.open_rules.specs.Request.{Request, hops, link}
 use Rattle.open_rules.proofs.Laws.Facts.{Early, After}
@@ -47,7 +47,7 @@ module _ {w w′ : Store} {q : Request} {d : ℕ → ℕ} (o : Opened w w′ q d
   away-kept l at h away a b =
       low-kept at (λ e. omega arith) (omega arith) (λ j m x y. let n : link q j ≡ l → ⊥ = away j m in omega arith)
 
-  pub record-kept : (c : ℕ) → c < channelsOf w → SameRecord w w′ c
+  pub record-kept : (c : ℕ) → IsChannel w c → SameRecord w w′ c
   record-kept c h = record {
     number = λ at a b. low-kept at (λ e. omega arith) (omega arith) (λ j m x y. omega (arith, route-few j m));
   }

@@ -1,7 +1,7 @@
 -- After an accepted open each place of each route, old or new, has its row.
 use Prim.Native.Nat.{ℕ, _<_}
 use native.Mathlib.Omega.{arith}
-use Rattle.store.specs.Layout.{Store, channelsOf, hopsOf, routeOf}
+use Rattle.store.specs.Layout.{Store, channelsOf, hopsOf, routeOf, IsChannel}
 use Rattle.store.proofs.Laws.Sound.{RowFor}
 use Rattle.open_rules.specs.Request.{Request, hops}
 use Rattle.store_same.proofs.Same.{hops-same, route-same}
@@ -12,7 +12,7 @@ use Rattle.open_keeps.proofs.Each.{each-link, each-channel}
 
 module _ {w w′ : Store} {q : Request} {d : ℕ → ℕ} (o : Opened w w′ q d) where
   -- a link keeps each row that it has
-  row-kept : (c j : ℕ) → c < channelsOf w → j < hopsOf w c → RowFor w′ c j (routeOf w c j)
+  row-kept : (c j : ℕ) → IsChannel w c → j < hopsOf w c → RowFor w′ c j (routeOf w c j)
   row-kept c j h i =
       each-link o (λ l. RowFor w c j l → RowFor w′ c j l)
       (λ k m. join-old o k m)
@@ -21,10 +21,10 @@ module _ {w w′ : Store} {q : Request} {d : ℕ → ℕ} (o : Opened w w′ q d
       (rw (links-kept o) (was-sound o .channel c h .route .known j i))
       (was-sound o .row c j h i)
 
-  pub all-listed : (c : ℕ) → c < channelsOf w′ → (j : ℕ) → j < hopsOf w′ c → RowFor w′ c j (routeOf w′ c j)
+  pub all-listed : (c : ℕ) → IsChannel w′ c → (j : ℕ) → j < hopsOf w′ c → RowFor w′ c j (routeOf w′ c j)
   all-listed = each-channel o (λ c. (j : ℕ) → j < hopsOf w′ c → RowFor w′ c j (routeOf w′ c j)) old new
     where
-      old : (c : ℕ) → c < channelsOf w → (j : ℕ) → j < hopsOf w′ c → RowFor w′ c j (routeOf w′ c j)
+      old : (c : ℕ) → IsChannel w c → (j : ℕ) → j < hopsOf w′ c → RowFor w′ c j (routeOf w′ c j)
       old c h j i =
           let same = record-kept o c h in
           let m : j < hopsOf w c = rw (hops-same same) at i in

@@ -4,14 +4,14 @@ use mathlib.Core.Path.{_≡_}
 use native.Mathlib.Omega.{arith}
 use Rattle.kinds.specs.Ranges.{mostHops}
 use Rattle.folds.specs.Folds.{sumTo}
-use Rattle.store.specs.Layout.{Store, channelsOf}
+use Rattle.store.specs.Layout.{Store, IsChannel}
 use Rattle.folds.proofs.Folds.{sum-same}
 use Rattle.store.proofs.Laws.Sound.{Sound, ChannelIs}
 use Rattle.store_same.proofs.Same.{SameRecord, Keeps, hops-same, route-same, delay-same, held-same, reserved-same, channel-same}
 use Rattle.open_keeps.proofs.Rows.{Entry, entryDelay, entryReserved, Here, Holds, Rows}
 
 module _ {w w′ : Store} (sound : Sound w) (keeps : Keeps w w′) where
-  pub old-channel : (c : ℕ) → c < channelsOf w → ChannelIs w′ c
+  pub old-channel : (c : ℕ) → IsChannel w c → ChannelIs w′ c
   old-channel c h =
       channel-same (keeps .channel c h) (keeps .network) (sound .counts .links-most) (sound .channel c h)
 

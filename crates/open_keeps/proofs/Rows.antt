@@ -4,7 +4,7 @@ use Prim.Native.Nat.{ℕ, suc, _≤_, _<_}
 use mathlib.Core.Path.{_≡_, sym, _∙_, ap, subst, subst₂}
 use native.Mathlib.Omega.{arith}
 use Rattle.folds.specs.Folds.{sumTo}
-use Rattle.store.specs.Layout.{Store, channelsOf, bufferOf, rowsOf, rowChannelOf, rowPlaceOf, hopsOf, routeOf, delayOf}
+use Rattle.store.specs.Layout.{Store, bufferOf, rowsOf, rowChannelOf, rowPlaceOf, hopsOf, routeOf, delayOf, IsChannel}
 use Rattle.store.specs.Amounts.{heldOf, reservedOf}
 use Rattle.store.proofs.Laws.Sound.{RowsAre, RowFor, Before}
 use Rattle.open_keeps.proofs.Insert.{Inserted, inserted-each, inserted-pairs}
@@ -27,7 +27,7 @@ entryReserved w e = reservedOf w (e .0) (e .1)
 
 -- link l is there
 pub record Here (w : Store) (l : ℕ) (e : Entry) : Type 0 where
-  pub channel : e .0 < channelsOf w
+  pub channel : IsChannel w (e .0)
   pub place : e .1 < hopsOf w (e .0)
   pub here : routeOf w (e .0) (e .1) ≡ l
 

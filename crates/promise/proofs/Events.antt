@@ -1,11 +1,11 @@
 -- What has happened stays so: a store that has the numbers of every channel, and perhaps more messages, says the same of each
 -- event.
-use Prim.Native.Nat.{ℕ, suc, _<_}
+use Prim.Native.Nat.{ℕ, suc}
 use mathlib.Core.Path.{_∙_}
 use mathlib.Core.List.{List, [], _∷_}
 use native.Mathlib.Omega.{arith}
 use Rattle.schedule.specs.Lists.{Every}
-use Rattle.store.specs.Layout.{Store, channelsOf}
+use Rattle.store.specs.Layout.{Store, IsChannel}
 use Rattle.store_same.proofs.Numbers.{SameNumbers}
 use Rattle.open_rules.specs.declared.Opening.{Opening}
 use Rattle.open_rules.specs.Request.{Request}
@@ -15,8 +15,8 @@ use Rattle.promise.specs.Promise.{Event, AsOpened}
 use Rattle.promise.specs.Promise.Event.{opened, accepted, sent}
 use Rattle.promise.proofs.Invariant.{IsMessage, EventIs}
 
-module _ {w w′ : Store} {all all′ : Accepted} (same : (c : ℕ) → c < channelsOf w → SameNumbers w w′ c)
-    (longer : (c : ℕ) → c < channelsOf w → Longer (all c) (all′ c)) where
+module _ {w w′ : Store} {all all′ : Accepted} (same : (c : ℕ) → IsChannel w c → SameNumbers w w′ c)
+    (longer : (c : ℕ) → IsChannel w c → Longer (all c) (all′ c)) where
   opened-stays : (c : ℕ) (q : Request) (answer : Opening) → AsOpened w c q answer → AsOpened w′ c q answer
   opened-stays c q answer o =
       let s = same c (o .number) in

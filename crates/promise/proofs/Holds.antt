@@ -6,7 +6,7 @@ use native.Mathlib.Omega.{arith}
 use lib.ListN.{length, getD, take, length-map, length-take, length-drop}
 use Rattle.schedule.specs.Lists.{Every}
 use Rattle.schedule.specs.Messages.{Message, Orderly, ended}
-use Rattle.store.specs.Layout.{Store, channelsOf, clockOf, cOf, pOf, hopsOf, routeOf, sentOf}
+use Rattle.store.specs.Layout.{Store, clockOf, cOf, pOf, hopsOf, routeOf, sentOf, IsChannel}
 use Rattle.store.specs.Amounts.{enteredOf, heldOf}
 use Rattle.folds.proofs.Folds.{sum-same}
 use Rattle.store.proofs.Laws.Sound.{ChannelIs, held-most}
@@ -17,14 +17,13 @@ use Rattle.promise_queue.proofs.Packets.{packets-length}
 use Rattle.promise_view.proofs.Counted.{accepted-count, sent-most}
 use Rattle.promise_view.proofs.InTime.{before-due}
 use Rattle.promise_sends.specs.Sends.{nameOf as nameSent}
-use Rattle.promise.specs.Promise.{Event, Packet, packetsIn, sendsOn, heldAt, deadlineAt}
-use Rattle.promise.specs.Promise.{NeverOver, InOrder, Conserved}
+use Rattle.promise.specs.Promise.{Event, Packet, packetsIn, sendsOn, heldAt, deadlineAt, NeverOver, InOrder, Conserved}
 use Rattle.promise.proofs.History.{messagesIn}
 use Rattle.promise.proofs.Packets.{every-between, every-get, Of, message-of, packets-count, packet-name}
 use Rattle.promise.proofs.Invariant.{Invariant, Timed}
 
 module _ {w : Store} {h : List Event} (i : Invariant w h) where
-  module _ (c : ℕ) (k : c < channelsOf w) where
+  module _ (c : ℕ) (k : IsChannel w c) where
     abbrev ms : List Message
     ms = messagesIn h c
 
@@ -82,7 +81,7 @@ module _ {w : Store} {h : List Event} (i : Invariant w h) where
         sym (length-map (sendsOn h c (routeOf w c j)) nameSent) ∙ (ap length (i .logged .names c j k l)
         ∙ omega (arith, sent-most own (i .seen .told c k) j l, packets-length (cOf w c) (pOf w c) ms order))
 
-  pub held-in-time : (c j : ℕ) → c < channelsOf w → j < hopsOf w c
+  pub held-in-time : (c j : ℕ) → IsChannel w c → j < hopsOf w c
       → Every (λ (x : Packet). clockOf w < deadlineAt w h c j (x .logical)) (heldAt w h c j)
   held-in-time c j k l = every-between _ none (packetsIn h c) (sentOf w c j) (enteredOf w c j)
       (λ x a b e. before c k j l x a e none)

@@ -5,7 +5,7 @@ use mathlib.Core.List.{List, _++_, map, Memᴰ·append-left}
 use lib.ListN.{length}
 use Rattle.schedule.specs.Lists.{Every}
 use Rattle.schedule.specs.Messages.{Message}
-use Rattle.store.specs.Layout.{Store, channelsOf}
+use Rattle.store.specs.Layout.{Store, IsChannel}
 use Rattle.promise_queue.specs.Queue.{timeAt, endAfter, packetsFrom}
 use Rattle.promise_view.specs.View.{Accepted}
 use Rattle.promise_view.proofs.Seen.{Seen, Steady, Near, InBurst, Within}
@@ -16,7 +16,7 @@ use Rattle.promise.proofs.History.{messagesIn}
 
 -- an accepted message is one of its channel's
 pub record IsMessage (w : Store) (all : Accepted) (c message logical packets : ℕ) : Type 0 where
-  pub channel : c < channelsOf w
+  pub channel : IsChannel w c
   pub inside : message < length (all c)
   pub time : timeAt (all c) message ≡ logical
   pub size : endAfter (all c) (suc message) ≡ endAfter (all c) message + packets
@@ -47,7 +47,7 @@ pub record Invariant (w : Store) (h : List Event) : Type 0 where
   pub names : (c : ℕ) → map nameOf (packetsIn h c) ≡ packetsFrom 0 0 (messagesIn h c)
   pub logicals : (c : ℕ) → Every (Timed (messagesIn h c)) (packetsIn h c)
   pub events : Every (EventIs w (messagesIn h)) h
-  pub known : (c : ℕ) → c < channelsOf w → WasOpened h c
+  pub known : (c : ℕ) → IsChannel w c → WasOpened h c
 
 -- what has happened has happened
 pub still-opened : (h more : List Event) (c : ℕ) → WasOpened h c → WasOpened (h ++ more) c

@@ -9,7 +9,7 @@ use lib.ListN.{length, length-map}
 use borrow.Author.Tests.{ltb-true, lt-ltb}
 use Rattle.kinds.specs.Ranges.{within, endSlot}
 use Rattle.kinds.proofs.Laws.{within-true}
-use Rattle.store.specs.Layout.{Store, channelsOf, clockOf, cOf, messagesOf}
+use Rattle.store.specs.Layout.{Store, channelsOf, clockOf, cOf, messagesOf, isChannel}
 use Rattle.store.specs.Sound.{soundOf}
 use Rattle.store.proofs.Laws.Sound.{is-sound}
 use Rattle.checks.specs.Checks.{firstFailed}
@@ -48,7 +48,7 @@ module _ {w : Store} {h : List Event} (i : Invariant w h) (c : ℕ) (q : Request
   burst-is = rw (time-is, o .b-is, o .p-is)
 
   -- the first three checks that an offer of this channel can fail, as the rule has them
-  known : ltb c (channelsOf w) ≡ true
+  known : isChannel w c ≡ true
   known = lt-ltb c (channelsOf w) (o .number)
 
   size-is : within 1 (cOf w c) packets ≡ within 1 (q .c) packets

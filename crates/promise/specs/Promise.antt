@@ -9,8 +9,8 @@ use mathlib.Core.List.{List, [], _∷_, _++_, map}
 use lib.Dec.{eqb, leb, ltb}
 use lib.ListN.{length, take, drop}
 use Rattle.kinds.specs.Ranges.{within, endSlot}
-use Rattle.store.specs.Layout.{Store, numberAt, linksOf, channelsOf, clockOf, bufferOf, rowsOf, cOf, pOf, dOf, bOf, hopsOf}
-use Rattle.store.specs.Layout.{routeOf, delayOf, sentOf}
+use Rattle.store.specs.Layout.{Store, numberAt, linksOf, clockOf, bufferOf, rowsOf, cOf, pOf, dOf, bOf, hopsOf, routeOf, delayOf}
+use Rattle.store.specs.Layout.{sentOf, IsChannel}
 use Rattle.folds.specs.Folds.{sumTo}
 use Rattle.store.specs.Amounts.{reservedOf, enteredOf}
 use Rattle.store.specs.Sound.{rowReservedOf}
@@ -125,20 +125,20 @@ module _ (w : Store) (h : List Event) where
 
   -- 1. "no packet is ever late on a link": none is held at a clock at or after its deadline, and none was sent in such a slot
   abbrev pub NeverLate : Type 0
-  NeverLate = ((c j : ℕ) → c < channelsOf w → j < hopsOf w c
+  NeverLate = ((c j : ℕ) → IsChannel w c → j < hopsOf w c
       → Every (λ (x : Packet). clockOf w < deadlineAt c j (x .logical)) (heldAt c j))
       × ((c j message logical packets : ℕ) → accepted c message logical packets ∈ h → j < hopsOf w c
       → Every (λ (x : Send). x .slot < deadlineAt c j logical) (keep (isMessage message) (sendsOn h c (routeOf w c j))))
 
   -- 2. "no stream holds more than was reserved", and what is reserved on a link fits its buffer
   abbrev pub NeverOver : Type 0
-  NeverOver = ((c j : ℕ) → c < channelsOf w → j < hopsOf w c → length (heldAt c j) ≤ reservedOf w c j)
+  NeverOver = ((c j : ℕ) → IsChannel w c → j < hopsOf w c → length (heldAt c j) ≤ reservedOf w c j)
       × ((l : ℕ) → l < linksOf w → sumTo (rowReservedOf w l) (rowsOf w l) ≤ bufferOf w l)
 
   -- 3. "every accepted message arrives whole, in order, in time". On each link of the route the sends are the channel's packets
   -- from the first on, in order, without gap or repeat.
   abbrev pub InOrder : Type 0
-  InOrder = (c j : ℕ) → c < channelsOf w → j < hopsOf w c
+  InOrder = (c j : ℕ) → IsChannel w c → j < hopsOf w c
       → let sends = sendsOn h c (routeOf w c j) in map nameSent sends ≡ take (length sends) (map nameOf (packetsIn h c))
 
   -- Once the clock is at least a message's logical time + D, the sends on the last link have exactly its packets, each once, in
@@ -151,7 +151,7 @@ module _ (w : Store) (h : List Event) where
 
   -- 4. "At all times accepted packets of a channel equal those held plus those delivered."
   abbrev pub Conserved : Type 0
-  Conserved = (c : ℕ) → c < channelsOf w
+  Conserved = (c : ℕ) → IsChannel w c
       → length (packetsIn h c)
       ≡ sumTo (λ j. length (heldAt c j)) (hopsOf w c) + length (sendsOn h c (routeOf w c (hopsOf w c - 1)))
 
@@ -182,7 +182,7 @@ OwnRule w h = (c : ℕ) (q : Request) (answer : Opening) → opened c q answer �
 
 -- What is said above of a channel's numbers in the store is said of what its open asked for and was answered.
 pub record AsOpened (w : Store) (c : ℕ) (q : Request) (answer : Opening) : Type 0 where
-  pub number : c < channelsOf w
+  pub number : IsChannel w c
   pub c-is : cOf w c ≡ q .c
   pub p-is : pOf w c ≡ q .p
   pub d-is : dOf w c ≡ q .d
@@ -208,4 +208,4 @@ pub record Promise (w : Store) (h : List Event) : Type 0 where
   pub never-17 : Never17 w h
   pub own-rule : OwnRule w h
   pub as-opened : (c : ℕ) (q : Request) (answer : Opening) → opened c q answer ∈ h → AsOpened w c q answer
-  pub was-opened : (c : ℕ) → c < channelsOf w → WasOpened h c
+  pub was-opened : (c : ℕ) → IsChannel w c → WasOpened h c

@@ -1,9 +1,9 @@
 -- After an accepted offer packets that were sent on are as near as they were, and no logical time is further ahead than the burst
 -- allows.
-use Prim.Native.Nat.{ℕ, _≤_, _<_}
+use Prim.Native.Nat.{ℕ, _≤_}
 use mathlib.Core.List.{[], _∷_, _++_}
 use native.Mathlib.Omega.{arith}
-use Rattle.store.specs.Layout.{Store, channelsOf, clockOf}
+use Rattle.store.specs.Layout.{Store, clockOf, IsChannel}
 use Rattle.store_same.proofs.Settled.{network-same, channels-same}
 use Rattle.store_same.proofs.Numbers.{SameNumbers, settled-numbers}
 use Rattle.offer_rules.specs.Offer.{offered}
@@ -22,10 +22,10 @@ module _ {w : Store} {all : Accepted} (s : Seen w all) {c packets : ℕ} (p : Pa
   abbrev later : Store
   later = offered w c packets
 
-  old-channel : (x : ℕ) → x < channelsOf later → x < channelsOf w
+  old-channel : (x : ℕ) → IsChannel later x → IsChannel w x
   old-channel x h = rw (channels-same (offer-settled (s .sound) p)) at h
 
-  numbers : (x : ℕ) → x < channelsOf w → SameNumbers w later x
+  numbers : (x : ℕ) → IsChannel w x → SameNumbers w later x
   numbers = settled-numbers (s .sound) (offer-settled (s .sound) p)
 
   no-sooner : clockOf w ≤ clockOf later
@@ -37,7 +37,7 @@ module _ {w : Store} {all : Accepted} (s : Seen w all) {c packets : ℕ} (p : Pa
   module _ {all′ : Accepted} (a : Adds w c packets all all′) where
     pub offer-in-burst : InBurst w all → InBurst later all′
     offer-in-burst burst x n h =
-        let i : x < channelsOf w = old-channel x h in
+        let i : IsChannel w x = old-channel x h in
         burst-same (numbers x i) no-sooner n (all′ x) (on-channels a (λ y. InBurstAt w y n) own x (λ e. burst x n i))
       where
         own : InBurstAt w c n (all c ++ (message w c packets ∷ []))
@@ -55,6 +55,6 @@ module _ {w : Store} {all : Accepted} (s : Seen w all) {c packets : ℕ} (p : Pa
 
     pub offer-near : Near w all → Near later all′
     offer-near near x j n h =
-        let i : x < channelsOf w = old-channel x h in
+        let i : IsChannel w x = old-channel x h in
         near-same (numbers x i) no-sooner (s .sound) (network-same (offer-settled (s .sound) p)) i j n (all′ x)
         (offer-sent (s .sound) p x j i) (on-channels a (λ y. NearAt w y j n) (own-near near j n) x (λ e. near x j n i))

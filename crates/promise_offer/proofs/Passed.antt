@@ -5,7 +5,7 @@ use mathlib.Core.Bool.{true}
 use mathlib.Core.List.{[], _∷_, _++_}
 use Rattle.kinds.specs.Ranges.{endSlot}
 use Rattle.schedule.specs.Messages.{Message}
-use Rattle.store.specs.Layout.{Store, channelsOf, clockOf, cOf}
+use Rattle.store.specs.Layout.{Store, clockOf, cOf, IsChannel}
 use Rattle.store.specs.Amounts.{acceptedOf}
 use Rattle.offer_rules.specs.Offer.{offerTime, inBurst}
 use Rattle.promise_view.specs.View.{Accepted}
@@ -13,7 +13,7 @@ use Rattle.promise_view.specs.View.{Accepted}
 -- "14, 11, 12, 13"
 pub record Passed (w : Store) (c packets : ℕ) : Type 0 where
   pub running : clockOf w < endSlot
-  pub known : c < channelsOf w
+  pub known : IsChannel w c
   pub least : 1 ≤ packets
   pub most : packets ≤ cOf w c
   pub burst : inBurst w c ≡ true

@@ -7,7 +7,7 @@ use lib.ListN.{length}
 use Rattle.kinds.specs.Ranges.{mostChannels}
 use Rattle.schedule.specs.Messages.{Message, Orderly}
 use Rattle.schedule.proofs.Messages.{orderly-more}
-use Rattle.store.specs.Layout.{Store, ring, channelsOf, cOf, pOf, messagesOf, timeOf, endOf}
+use Rattle.store.specs.Layout.{Store, ring, channelsOf, cOf, pOf, messagesOf, timeOf, endOf, IsChannel}
 use Rattle.folds.proofs.Folds.{below}
 use Rattle.store.proofs.Laws.Sound.{Sound}
 use Rattle.store_same.proofs.Few.{few-channels}
@@ -68,9 +68,9 @@ more-orderly {w} {c} {packets} {ms} o t p =
 
 module _ {w : Store} {all all′ : Accepted} (s : Seen w all) {c packets : ℕ} (p : Passed w c packets)
     (a : Adds w c packets all all′) where
-  pub offer-told : (x : ℕ) → x < channelsOf (offered w c packets) → Told (offered w c packets) x (all′ x)
+  pub offer-told : (x : ℕ) → IsChannel (offered w c packets) x → Told (offered w c packets) x (all′ x)
   offer-told x h =
-      let i : x < channelsOf w = rw (channels-same (offer-settled (s .sound) p)) at h in
+      let i : IsChannel w x = rw (channels-same (offer-settled (s .sound) p)) at h in
       on-channels a (Told (offered w c packets))
       (own-told (s .told c (p .known)) (s .sound) (few-channels (s .sound) c (p .known)) packets) x
       (λ e. told-record (offered-other w c packets x e) (s .told x i))

@@ -6,7 +6,7 @@ use mathlib.Core.List.{[]}
 use native.Mathlib.Omega.{arith}
 use lib.ListN.{length}
 use Rattle.schedule.specs.Messages.{Message}
-use Rattle.store.specs.Layout.{Store, channelsOf, clockOf}
+use Rattle.store.specs.Layout.{Store, channelsOf, clockOf, IsChannel}
 use Rattle.folds.proofs.Folds.{sum-same}
 use Rattle.store_same.proofs.Few.{few-places}
 use Rattle.store_same.proofs.Same.{sent-same}
@@ -32,7 +32,7 @@ module _ {w : Store} {all : AllAccepted} (s : Seen w all) (q : Request) (n : ℕ
   kept : Opened w w′ q (delaysOf w q)
   kept = open-kept q n a
 
-  numbers : (c : ℕ) → c < channelsOf w → SameNumbers w w′ c
+  numbers : (c : ℕ) → IsChannel w c → SameNumbers w w′ c
   numbers = open-numbers q n a
 
   later : clockOf w ≤ clockOf w′
@@ -54,7 +54,7 @@ module _ {w : Store} {all : AllAccepted} (s : Seen w all) (q : Request) (n : ℕ
   open-near near c j m =
       each-channel kept (λ c. NearAt w′ c j m (all c)) old (λ i k. absurd (no-message m k)) c
     where
-      old : (c : ℕ) → c < channelsOf w → NearAt w′ c j m (all c)
+      old : (c : ℕ) → IsChannel w c → NearAt w′ c j m (all c)
       old c h = near-same (numbers c h) later (s .sound) (network-kept kept) h j m (all c)
           (λ i. sent-same (record-kept kept c h) j (few-places (s .sound) c j h i)) (near c j m h)
 

@@ -5,7 +5,7 @@ use mathlib.Core.List.{[]}
 use native.Mathlib.Omega.{arith}
 use Rattle.schedule.specs.Feasible.{Table}
 use Rattle.schedule.specs.Messages.{ended}
-use Rattle.store.specs.Layout.{Store, linksOf, channelsOf, messagesOf, endOf}
+use Rattle.store.specs.Layout.{Store, linksOf, channelsOf, messagesOf, endOf, IsChannel}
 use Rattle.store.proofs.Laws.Sound.{sound-is}
 use Rattle.open_rules.specs.declared.Outcome.the-variants.{Accepted}
 use Rattle.open_rules.specs.Request.{Request}
@@ -46,7 +46,7 @@ module _ {w : Store} {all : AllAccepted} (s : Seen w all) (q : Request) (n : ℕ
       (delay-within w q (kept .early) (late .responds))
       (s .tables)
 
-  told : (c : ℕ) → c < channelsOf w′ → Told w′ c (all c)
+  told : (c : ℕ) → IsChannel w′ c → Told w′ c (all c)
   told =
       each-channel kept (λ c. Told w′ c (all c))
       (λ c h. told-record (record-kept kept c h) (s .told c h))

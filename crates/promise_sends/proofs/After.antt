@@ -7,7 +7,7 @@ use native.Mathlib.Numerals.{add-one}
 use native.Mathlib.Omega.{arith}
 use lib.ListN.{take}
 use Rattle.schedule.proofs.Lists.{every-append}
-use Rattle.store.specs.Layout.{Store, channelsOf, cOf, pOf, hopsOf, routeOf, sentOf}
+use Rattle.store.specs.Layout.{Store, cOf, pOf, hopsOf, routeOf, sentOf, IsChannel}
 use Rattle.store_same.proofs.Settled.{channels-same}
 use Rattle.slot_rules.specs.Head.{messageOf}
 use Rattle.slot_rules.specs.Slot.{Send, sendAt, slotSends, moved}
@@ -36,7 +36,7 @@ names-append f log more = ap (map nameOf) (keep-append f log more) ∙ map-appen
 
 module _ {w : Store} {all : Accepted} (s : Seen w all) where
   -- the packet that goes next is the channel's first that was not sent there
-  module _ (c j : ℕ) (h : c < channelsOf w) (i : j < hopsOf w c) where
+  module _ (c j : ℕ) (h : IsChannel w c) (i : j < hopsOf w c) where
     abbrev packets : List Packet
     packets = packetsFrom 0 0 (all c)
 
@@ -60,13 +60,13 @@ module _ {w : Store} {all : Accepted} (s : Seen w all) where
         go true e = rw (sent-goes (s .sound) c j h i e) (one-more e)
         go false e = rw (sent-stays (s .sound) c j h i e) (append-nil (take (sentOf w c j) packets))
 
-  numbers : (c : ℕ) → c < channelsOf w → SameNumbers w (moved w) c
+  numbers : (c : ℕ) → IsChannel w c → SameNumbers w (moved w) c
   numbers = settled-numbers (s .sound) (moved-settled (s .sound))
 
   pub slot-logged : Steady w all → {log : List Send} → Logged w all log → Logged (moved w) all (log ++ slotSends w)
   slot-logged on {log} known = record {
     names = λ c j h i.
-        let old : c < channelsOf w = rw (channels-same (moved-settled (s .sound))) at h in
+        let old : IsChannel w c = rw (channels-same (moved-settled (s .sound))) at h in
         let place : j < hopsOf w c = rw (numbers c old .hops-are) at i in
         rw (numbers c old .route-is j place) (names-after c j old place known);
     timely = timely-kept numbers all all (λ c h. as-long (all c) (all c) refl) (log ++ slotSends w)

@@ -10,7 +10,7 @@ use lib.ListN.{length}
 use borrow.Author.Tests.{eqb-true}
 use Rattle.schedule.specs.Lists.{Every}
 use Rattle.schedule.proofs.Lists.{every-imp}
-use Rattle.store.specs.Layout.{Store, channelsOf, clockOf, cOf, pOf, dOf, hopsOf, routeOf, delayOf, sentOf}
+use Rattle.store.specs.Layout.{Store, clockOf, cOf, pOf, dOf, hopsOf, routeOf, delayOf, sentOf, IsChannel}
 use Rattle.folds.specs.Folds.{sumTo}
 use Rattle.slot_rules.specs.Slot.{Send}
 use Rattle.promise_queue.specs.Queue.{timeAt, endAfter, packetsOf}
@@ -43,7 +43,7 @@ module _ {w : Store} {all : Accepted} {log : List Send} (known : Logged w all lo
       (keep-each (InTime w all) (λ x. Early (x .message) x) (isOn c (routeOf w c j)) log early-on (known .timely))
 
 module _ {w : Store} {all : Accepted} (s : Seen w all) (on : Steady w all) (within : Within w) {log : List Send}
-    (known : Logged w all log) (c n : ℕ) (h : c < channelsOf w) (told : n < length (all c)) where
+    (known : Logged w all log) (c n : ℕ) (h : IsChannel w c) (told : n < length (all c)) where
   -- the last link of the route
   abbrev j : ℕ
   j = hopsOf w c - 1

@@ -5,7 +5,7 @@ use mathlib.Core.List.{List, [], _∷_, _++_}
 use native.Mathlib.Decide.{ℕ-discrete}
 use lib.ListN.{take}
 use Rattle.schedule.specs.Messages.{Message}
-use Rattle.store.specs.Layout.{Store, channelsOf, cOf, pOf, hopsOf, sentOf}
+use Rattle.store.specs.Layout.{Store, cOf, pOf, hopsOf, sentOf, IsChannel}
 use Rattle.store_same.proofs.Same.{sent-same}
 use Rattle.store_same.proofs.Settled.{Settled, channels-same}
 use Rattle.store_same.proofs.Numbers.{SameNumbers, settled-numbers}
@@ -23,7 +23,7 @@ use Rattle.promise_view.proofs.Counted.{sent-most}
 use Rattle.promise_sends.specs.Log.{Logged}
 use Rattle.promise_sends.proofs.Kept.{timely-kept, names-kept}
 
-module _ {w : Store} {all all′ : Accepted} (s : Seen w all) (c packets : ℕ) (h : c < channelsOf w) (m : Message)
+module _ {w : Store} {all all′ : Accepted} (s : Seen w all) (c packets : ℕ) (h : IsChannel w c) (m : Message)
     (new : all′ c ≡ all c ++ (m ∷ [])) (others : (x : ℕ) → (x ≡ c → ⊥) → all′ x ≡ all x) where
   abbrev later : Store
   later = offered w c packets
@@ -31,17 +31,17 @@ module _ {w : Store} {all all′ : Accepted} (s : Seen w all) (c packets : ℕ) 
   settled : Settled w later
   settled = offered-settled w c packets (few-channels (s .sound) c h)
 
-  numbers : (x : ℕ) → x < channelsOf w → SameNumbers w later x
+  numbers : (x : ℕ) → IsChannel w x → SameNumbers w later x
   numbers = settled-numbers (s .sound) settled
 
-  longer : (x : ℕ) → x < channelsOf w → Longer (all x) (all′ x)
+  longer : (x : ℕ) → IsChannel w x → Longer (all x) (all′ x)
   longer x g = go (ℕ-discrete x c)
     where
       go : Dec (x ≡ c) → Longer (all x) (all′ x)
       go (yes e) = rw e (one-longer (all c) (all′ c) m new)
       go (no e) = as-long (all x) (all′ x) (others x e)
 
-  same-packets : (x j : ℕ) → x < channelsOf w → j < hopsOf w x
+  same-packets : (x j : ℕ) → IsChannel w x → j < hopsOf w x
       → take (sentOf later x j) (packetsFrom 0 0 (all′ x)) ≡ take (sentOf w x j) (packetsFrom 0 0 (all x))
   same-packets x j g i = go (ℕ-discrete x c)
     where
@@ -57,7 +57,7 @@ module _ {w : Store} {all all′ : Accepted} (s : Seen w all) (c packets : ℕ) 
   pub offer-logged : {log : List Send} → Logged w all log → Logged (offered w c packets) all′ log
   offer-logged {log} known = record {
     names = λ x j g i.
-        let old : x < channelsOf w = rw (channels-same settled) at g in
+        let old : IsChannel w x = rw (channels-same settled) at g in
         let place : j < hopsOf w x = rw (numbers x old .hops-are) at i in
         names-kept numbers all all′ known x j old place (same-packets x j old place);
     timely = timely-kept numbers all all′ longer log (known .timely);

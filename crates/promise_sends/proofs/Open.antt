@@ -7,7 +7,7 @@ use native.Mathlib.Omega.{arith}
 use lib.ListN.{take}
 use borrow.Author.Tests.{ne-eqb}
 use Rattle.schedule.proofs.Lists.{every-imp}
-use Rattle.store.specs.Layout.{Store, channelsOf, hopsOf, routeOf, sentOf}
+use Rattle.store.specs.Layout.{Store, channelsOf, hopsOf, routeOf, sentOf, IsChannel}
 use Rattle.folds.proofs.Folds.{below}
 use Rattle.store_same.proofs.Same.{Keeps, sent-same}
 use Rattle.store_same.proofs.Numbers.{SameNumbers, kept-numbers}
@@ -29,12 +29,12 @@ none-logged e = record { names = λ c j h i. absurd (omega arith); timely = tt }
 module _ {w w′ : Store} {all : Accepted} (s : Seen w all) (keeps : Keeps w w′)
     (one : channelsOf w′ ≡ suc (channelsOf w))
     (fresh : (j : ℕ) → j < hopsOf w′ (channelsOf w) → sentOf w′ (channelsOf w) j ≡ 0) where
-  numbers : (c : ℕ) → c < channelsOf w → SameNumbers w w′ c
+  numbers : (c : ℕ) → IsChannel w c → SameNumbers w w′ c
   numbers = kept-numbers (s .sound) keeps
 
   module _ {log : List Send} (known : Logged w all log) where
     -- a channel that there was
-    old-names : (c j : ℕ) → c < channelsOf w → j < hopsOf w′ c
+    old-names : (c j : ℕ) → IsChannel w c → j < hopsOf w′ c
         → map nameOf (keep (isOn c (routeOf w′ c j)) log) ≡ take (sentOf w′ c j) (packetsFrom 0 0 (all c))
     old-names c j h i =
         let place : j < hopsOf w c = rw (numbers c h .hops-are) at i in

@@ -6,7 +6,7 @@ use mathlib.Core.List.{[], _∷_, append-nil}
 use native.Mathlib.Omega.{arith}
 use lib.Dec.{eqb}
 use borrow.Author.Tests.{eq-eqb, ne-eqb}
-use Rattle.store.specs.Layout.{Store, linksOf, channelsOf, rowChannelOf, rowPlaceOf, hopsOf, routeOf}
+use Rattle.store.specs.Layout.{Store, linksOf, rowChannelOf, rowPlaceOf, hopsOf, routeOf, IsChannel}
 use Rattle.folds.proofs.Folds.{below, and-false}
 use Rattle.store.proofs.Laws.Sound.{Sound}
 use Rattle.slot_rules.specs.Pick.{pickOf}
@@ -56,7 +56,7 @@ module _ (w : Store) (c l : ℕ) where
   unfolding keep
   from-row k e = keep-no (isOn c l) (sendAt w l (rowChannelOf w l k) (rowPlaceOf w l k)) [] (rw e)
 
-module _ {w : Store} (s : Sound w) (c j : ℕ) (h : c < channelsOf w) (i : j < hopsOf w c) where
+module _ {w : Store} (s : Sound w) (c j : ℕ) (h : IsChannel w c) (i : j < hopsOf w c) where
   abbrev l : ℕ
   l = routeOf w c j
 

@@ -6,7 +6,7 @@ use native.Mathlib.Omega.{arith}
 use borrow.Author.Tests.{eq-eqb}
 use Rattle.schedule.specs.Lists.{Every}
 use Rattle.schedule.proofs.Lists.{every-append}
-use Rattle.store.specs.Layout.{Store, linksOf, channelsOf, clockOf, rowChannelOf, rowPlaceOf, hopsOf, routeOf}
+use Rattle.store.specs.Layout.{Store, linksOf, clockOf, rowChannelOf, rowPlaceOf, hopsOf, routeOf, IsChannel}
 use Rattle.slot_rules.specs.Head.{messageOf}
 use Rattle.slot_rules.specs.Pick.{pickOf}
 use Rattle.slot_rules.specs.Slot.{sendAt, sendFrom, sendsTo, slotSends}
@@ -28,7 +28,7 @@ module _ {w : Store} {all : Accepted} (s : Seen w all) (on : Steady w all) where
     j = rowPlaceOf w l k
 
     -- its link stands nowhere else on the route
-    one-place : (i : ℕ) → c < channelsOf w → i < hopsOf w c → routeOf w c i ≡ l → i ≡ j
+    one-place : (i : ℕ) → IsChannel w c → i < hopsOf w c → routeOf w c i ≡ l → i ≡ j
     one-place i h m f =
         let leaving-there : leaves w c i ≡ true = rw (f, e) (eq-eqb c c refl) in
         let r : RowLeaving w c i = row-leaving (s .sound) c i h m leaving-there in

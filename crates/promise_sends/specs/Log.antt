@@ -5,7 +5,7 @@ use mathlib.Core.Path.{_≡_}
 use mathlib.Core.List.{List, map}
 use lib.ListN.{length, take}
 use Rattle.schedule.specs.Lists.{Every}
-use Rattle.store.specs.Layout.{Store, channelsOf, hopsOf, routeOf, delayOf, sentOf}
+use Rattle.store.specs.Layout.{Store, hopsOf, routeOf, delayOf, sentOf, IsChannel}
 use Rattle.folds.specs.Folds.{sumTo}
 use Rattle.slot_rules.specs.Slot.{Send}
 use Rattle.promise_queue.specs.Queue.{timeAt, packetsFrom}
@@ -16,12 +16,12 @@ use Rattle.promise_sends.specs.Sends.{isOn, nameOf}
 -- a packet of a message that its channel has accepted, sent before its deadline on that link: the message's logical time and the
 -- delays up to there
 pub record InTime (w : Store) (all : Accepted) (x : Send) : Type 0 where
-  pub known : x .channel < channelsOf w
+  pub known : IsChannel w (x .channel)
   pub told : x .message < length (all (x .channel))
   pub due : (j : ℕ) → j < hopsOf w (x .channel) → routeOf w (x .channel) j ≡ x .link
       → x .slot < timeAt (all (x .channel)) (x .message) + sumTo (delayOf w (x .channel)) (suc j)
 
 pub record Logged (w : Store) (all : Accepted) (log : List Send) : Type 0 where
-  pub names : (c j : ℕ) → c < channelsOf w → j < hopsOf w c
+  pub names : (c j : ℕ) → IsChannel w c → j < hopsOf w c
       → map nameOf (keep (isOn c (routeOf w c j)) log) ≡ take (sentOf w c j) (packetsFrom 0 0 (all c))
   pub timely : Every (InTime w all) log

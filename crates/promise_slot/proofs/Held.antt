@@ -4,7 +4,7 @@ use native.Mathlib.Omega.{arith}
 use lib.ListN.{length}
 use Rattle.schedule.specs.Messages.{ended}
 use Rattle.schedule.proofs.Times.{on-later}
-use Rattle.store.specs.Layout.{Store, channelsOf, clockOf, cOf, pOf, hopsOf, routeOf, delayOf, sentOf, horizonOf}
+use Rattle.store.specs.Layout.{Store, clockOf, cOf, pOf, hopsOf, routeOf, delayOf, sentOf, horizonOf, IsChannel}
 use Rattle.folds.specs.Folds.{sumTo}
 use Rattle.store.specs.Amounts.{reservedOf, enteredOf, heldOf}
 use Rattle.store_same.proofs.Settled.{Settled, channel-kept}
@@ -30,14 +30,14 @@ InStretch w c j ℓ = (suc (clockOf w) < ℓ + delayOf w c (suc j))
 
 module _ {w : Store} {all : Accepted} (s : Seen w all) where
   -- no more has been sent than was accepted
-  gone-most : (c j : ℕ) → c < channelsOf w → j < hopsOf w c → sentOf (moved w) c j ≤ ended 0 (all c)
+  gone-most : (c j : ℕ) → IsChannel w c → j < hopsOf w c → sentOf (moved w) c j ≤ ended 0 (all c)
   gone-most c j h i =
       let settled : Settled w (moved w) = moved-settled (s .sound) in
       let same : SameNumbers w (moved w) c = settled-numbers (s .sound) settled c h in
       sent-most (channel-kept settled (s .sound) c h (course (s .sound) c h)) (told-after s c (same .there)) j
       (rw (same .hops-are) i)
 
-  module _ (on : Steady w all) (near : Near w all) (c j : ℕ) (h : c < channelsOf w) (i : suc j < hopsOf w c) where
+  module _ (on : Steady w all) (near : Near w all) (c j : ℕ) (h : IsChannel w c) (i : suc j < hopsOf w c) where
     -- a message of which a packet is held at place j + 1
     in-stretch : (n : ℕ) → n < length (all c) → sentOf (moved w) c (suc j) < endAfter (all c) (suc n)
         → endAfter (all c) n < sentOf (moved w) c j → InStretch w c j (timeAt (all c) n + sumTo (delayOf w c) (suc j))

@@ -6,7 +6,7 @@ use mathlib.Core.Bool.{Bool, true, false}
 use native.Mathlib.Decide.{decLt}
 use native.Mathlib.Omega.{arith}
 use lib.ListN.{length}
-use Rattle.store.specs.Layout.{Store, channelsOf, clockOf, cOf, pOf, hopsOf, routeOf, delayOf, sentOf, horizonOf}
+use Rattle.store.specs.Layout.{Store, clockOf, cOf, pOf, hopsOf, routeOf, delayOf, sentOf, horizonOf, IsChannel}
 use Rattle.folds.specs.Folds.{sumTo}
 use Rattle.store_same.proofs.Settled.{channels-same, network-same}
 use Rattle.store_same.proofs.Numbers.{SameNumbers, settled-numbers, horizon-is}
@@ -27,7 +27,7 @@ use Rattle.promise_view.proofs.Settled.{within-kept}
 use Rattle.promise_view.proofs.Next.{NextIs, next-is}
 
 module _ {w : Store} {all : Accepted} (s : Seen w all) where
-  module _ (c j : ℕ) (h : c < channelsOf w) (i : j < hopsOf w c) where
+  module _ (c j : ℕ) (h : IsChannel w c) (i : j < hopsOf w c) where
     -- a packet that leaves is current, or within the horizon
     leaving-near : leaves w c j ≡ true → logicalOf w c j ≤ clockOf w + horizonOf w (routeOf w c j)
     leaving-near e =
@@ -61,15 +61,15 @@ module _ {w : Store} {all : Accepted} (s : Seen w all) where
         go (no d) false e = absurd (omega (arith, d, sent-stays (s .sound) c j h i e))
 
   -- the channels, and their numbers, are those of before
-  old-channel : (c : ℕ) → c < channelsOf (moved w) → c < channelsOf w
+  old-channel : (c : ℕ) → IsChannel (moved w) c → IsChannel w c
   old-channel c h = rw (channels-same (moved-settled (s .sound))) at h
 
-  numbers : (c : ℕ) → c < channelsOf w → SameNumbers w (moved w) c
+  numbers : (c : ℕ) → IsChannel w c → SameNumbers w (moved w) c
   numbers = settled-numbers (s .sound) (moved-settled (s .sound))
 
   pub near-after : Near w all → Near (moved w) all
   near-after near c j n h i l m =
-      let a : c < channelsOf w = old-channel c h in
+      let a : IsChannel w c = old-channel c h in
       let same : SameNumbers w (moved w) c = numbers c a in
       let b : suc j < hopsOf w c = rw (same .hops-are) at i in
       let here : j < hopsOf w c = omega arith in
@@ -79,7 +79,7 @@ module _ {w : Store} {all : Accepted} (s : Seen w all) where
 
   pub in-burst-after : InBurst w all → InBurst (moved w) all
   in-burst-after burst c n h =
-      let a : c < channelsOf w = old-channel c h in
+      let a : IsChannel w c = old-channel c h in
       burst-same (numbers c a) (omega (arith, clock-after (s .sound))) n (all c) (burst c n a)
 
   pub within-after : Within w → Within (moved w)

@@ -2,7 +2,7 @@
 use Prim.Native.Nat.{ℕ, zero, suc, _≤_, _<_}
 use native.Mathlib.Omega.{arith}
 use Rattle.kinds.specs.Ranges.{endSlot}
-use Rattle.store.specs.Layout.{Store, channelsOf, clockOf, hopsOf}
+use Rattle.store.specs.Layout.{Store, clockOf, hopsOf, IsChannel}
 use Rattle.store.specs.Amounts.{reservedOf, enteredOf, heldOf}
 use Rattle.store.proofs.Laws.Sound.{Sound, held-most}
 use Rattle.store_same.proofs.Few.{few-channels}
@@ -20,7 +20,7 @@ use Rattle.promise_slot.proofs.Held.{held-later}
 
 module _ {w : Store} {all : Accepted} (s : Seen w all) (on : Steady w all) (near : Near w all) where
   -- nothing comes to the first place in a slot
-  held-after : (c j : ℕ) → c < channelsOf w → j < hopsOf w c → heldOf (moved w) c j ≤ reservedOf w c j
+  held-after : (c j : ℕ) → IsChannel w c → j < hopsOf w c → heldOf (moved w) c j ≤ reservedOf w c j
   unfolding enteredOf
   held-after c zero h i =
       omega (

@@ -13,7 +13,7 @@ use Rattle.schedule.specs.Link.Head.{busy}
 use Rattle.schedule.specs.Channel.{Sends, Steps}
 use Rattle.schedule.specs.Network.{Key, HeldAt, row, head, Inside, Picks, Step}
 use Rattle.schedule.specs.Network.Picks.{sends, rests}
-use Rattle.store.specs.Layout.{Store, linksOf, channelsOf, clockOf, rowsOf, rowChannelOf, rowPlaceOf, hopsOf, sentOf}
+use Rattle.store.specs.Layout.{Store, linksOf, clockOf, rowsOf, rowChannelOf, rowPlaceOf, hopsOf, sentOf, IsChannel}
 use Rattle.store.proofs.Laws.Sound.{RowIs}
 use Rattle.slot_rules.specs.Pick.{rowHeld, rowLogical, rowDeadline, pickOf}
 use Rattle.slot_rules.specs.Slot.{moved}
@@ -32,7 +32,7 @@ use Rattle.promise_view.proofs.Head.{head-is}
 
 module _ {w : Store} {all : Accepted} (s : Seen w all) where
   -- where a packet of channel c leaves place j, it was held there
-  sends-one : (c j : ℕ) → c < channelsOf w → j < hopsOf w c → leaves w c j ≡ true
+  sends-one : (c j : ℕ) → IsChannel w c → j < hopsOf w c → leaves w c j ≡ true
       → Sends (trafficOf w all c) (sentOf (moved w) c) j
   sends-one c j h i e = record {
     held = rw (entered-is (s .told c h) j) (leaving-held (s .sound) c j h i e);

@@ -4,7 +4,7 @@ use mathlib.Core.Path.{_≡_}
 use mathlib.Core.List.{List}
 use native.Mathlib.Omega.{arith}
 use Rattle.schedule.specs.Messages.{Message}
-use Rattle.store.specs.Layout.{Store, channelsOf, clockOf, hopsOf, sentOf}
+use Rattle.store.specs.Layout.{Store, clockOf, hopsOf, sentOf, IsChannel}
 use Rattle.store.proofs.Laws.Sound.{Sound}
 use Rattle.store_same.proofs.Same.{SameNetwork}
 use Rattle.store_same.proofs.Numbers.{SameNumbers, horizon-is}
@@ -20,7 +20,7 @@ module _ {w w′ : Store} {c : ℕ} (same : SameNumbers w w′ c) where
     burst-same n ms burst l = rw (same .b-is, same .p-is) (omega (arith, burst l))
 
     -- where no packet more has been sent on
-    pub near-same : Sound w → SameNetwork w w′ → c < channelsOf w → (j n : ℕ) (ms : List Message)
+    pub near-same : Sound w → SameNetwork w w′ → IsChannel w c → (j n : ℕ) (ms : List Message)
         → (j < hopsOf w c → sentOf w′ c j ≡ sentOf w c j) → NearAt w c j n ms → NearAt w′ c j n ms
     near-same sound network h j n ms sent near i l e =
         let before : suc j < hopsOf w c = rw (same .hops-are) at i in

@@ -5,7 +5,7 @@ use native.Mathlib.Omega.{arith}
 use lib.ListN.{length}
 use Rattle.schedule.specs.Network.{Key, AllCounted, OnLinks}
 use Rattle.schedule.proofs.Network.{in-time as schedule-in-time}
-use Rattle.store.specs.Layout.{Store, channelsOf, hopsOf, delayOf, sentOf}
+use Rattle.store.specs.Layout.{Store, hopsOf, delayOf, sentOf, IsChannel}
 use Rattle.folds.specs.Folds.{sumTo}
 use Rattle.promise_queue.specs.Queue.{timeAt, endAfter}
 use Rattle.promise_queue.proofs.Ends.{message-at}
@@ -17,7 +17,7 @@ use Rattle.promise_view.proofs.Counted.{counted}
 
 -- with the plan of w, where w′ says how much has been sent
 module _ {w : Store} {all : Accepted} (s : Seen w all) (w′ : Store) (now : AllCounted (planOf w) (trafficOf w′ all)) (t : ℕ)
-    (on : OnLinks (planOf w) (trafficOf w′ all) t) (c j n : ℕ) (h : c < channelsOf w) (i : j < hopsOf w c)
+    (on : OnLinks (planOf w) (trafficOf w′ all) t) (c j n : ℕ) (h : IsChannel w c) (i : j < hopsOf w c)
     (l : n < length (all c)) where
   all-sent : timeAt (all c) n + sumTo (delayOf w c) (suc j) ≤ t → endAfter (all c) (suc n) ≤ sentOf w′ c j
   all-sent past =
@@ -35,10 +35,10 @@ module _ {w : Store} {all : Accepted} (s : Seen w all) (w′ : Store) (now : All
       go (no d) = absurd (omega (arith, unsent, all-sent (omega (arith, d))))
 
 module _ {w : Store} {all : Accepted} (s : Seen w all) (t : ℕ) (on : OnLinks (planOf w) (trafficOf w all) t) where
-  pub in-time : (c j n : ℕ) → c < channelsOf w → j < hopsOf w c → n < length (all c)
+  pub in-time : (c j n : ℕ) → IsChannel w c → j < hopsOf w c → n < length (all c)
       → timeAt (all c) n + sumTo (delayOf w c) (suc j) ≤ t → endAfter (all c) (suc n) ≤ sentOf w c j
   in-time = all-sent s w (counted s) t on
 
-  pub before-due : (c j n : ℕ) → c < channelsOf w → j < hopsOf w c → n < length (all c)
+  pub before-due : (c j n : ℕ) → IsChannel w c → j < hopsOf w c → n < length (all c)
       → sentOf w c j < endAfter (all c) (suc n) → t < timeAt (all c) n + sumTo (delayOf w c) (suc j)
   before-due = still-before s w (counted s) t on

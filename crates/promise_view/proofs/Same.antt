@@ -10,7 +10,7 @@ use Rattle.schedule.specs.Messages.{Message, Orderly}
 use Rattle.schedule.specs.Channel.{Course, rowAt, headOf}
 use Rattle.schedule.specs.Network.{Key, Traffic, row, head, Inside}
 use Rattle.schedule.proofs.Link.{same-kept}
-use Rattle.store.specs.Layout.{Store, channelsOf, cOf, pOf, hopsOf, messagesOf, delayOf, timeOf, endOf}
+use Rattle.store.specs.Layout.{Store, channelsOf, cOf, pOf, hopsOf, messagesOf, delayOf, timeOf, endOf, IsChannel}
 use Rattle.folds.specs.Folds.{sumTo}
 use Rattle.folds.proofs.Folds.{sum-same}
 use Rattle.store.proofs.Laws.Sound.{Sound}
@@ -43,12 +43,12 @@ pub told-record : {w w′ : Store} {c : ℕ} {ms : List Message} → SameRecord 
 told-record same = told-same (messages-same same) (time-same same) (end-same same)
 
 -- every channel that w has
-module _ {w w′ : Store} (same : (c : ℕ) → c < channelsOf w → SameNumbers w w′ c) where
+module _ {w w′ : Store} (same : (c : ℕ) → IsChannel w c → SameNumbers w w′ c) where
   pub orderly-same : {all : Accepted} → ((c : ℕ) → Orderly (cOf w c) (pOf w c) 0 0 (all c))
       → ((c : ℕ) → channelsOf w ≤ c → all c ≡ []) → (c : ℕ) → Orderly (cOf w′ c) (pOf w′ c) 0 0 (all c)
   orderly-same {all} orderly none c = go (decLt c (channelsOf w))
     where
-      go : Dec (c < channelsOf w) → Orderly (cOf w′ c) (pOf w′ c) 0 0 (all c)
+      go : Dec (IsChannel w c) → Orderly (cOf w′ c) (pOf w′ c) 0 0 (all c)
       go (yes h) = rw (same c h .c-is, same c h .p-is) (orderly c)
       go (no h) = rw (none c (omega (arith, h))) tt
 

@@ -6,7 +6,7 @@ use native.Mathlib.Decide.{decLt}
 use native.Mathlib.Omega.{arith}
 use Rattle.schedule.specs.Feasible.{Table}
 use Rattle.schedule.specs.Network.{Key, Traffic, head, Inside, OnLinks}
-use Rattle.store.specs.Layout.{Store, linksOf, channelsOf, rowsOf, rowChannelOf, rowPlaceOf}
+use Rattle.store.specs.Layout.{Store, linksOf, rowsOf, rowChannelOf, rowPlaceOf, IsChannel}
 use Rattle.store.proofs.Laws.Sound.{RowIs, Sound}
 use Rattle.store_same.proofs.Few.{few-links}
 use Rattle.store_same.proofs.Settled.{Settled, links-same, channels-same, rows-same, same-channel, same-place}
@@ -20,12 +20,12 @@ use Rattle.promise_view.proofs.Same.{row-same, link-same}
 use Rattle.promise_view.proofs.Bounds.{within-same}
 
 module _ {w w′ : Store} (settled : Settled w w′) (sound : Sound w) where
-  numbers : (c : ℕ) → c < channelsOf w → SameNumbers w w′ c
+  numbers : (c : ℕ) → IsChannel w c → SameNumbers w w′ c
   numbers = settled-numbers sound settled
 
   pub within-kept : Within w → Within w′
   within-kept within c i =
-      let h : c < channelsOf w = rw (channels-same settled) at i in
+      let h : IsChannel w c = rw (channels-same settled) at i in
       within-same (numbers c h) (within c h)
 
   -- link l

@@ -6,7 +6,7 @@ use native.Mathlib.Omega.{arith}
 use lib.Dec.{eqb}
 use borrow.Author.Tests.{le-leb, lt-leb, lt-ltb, le-ltb}
 use Rattle.kinds.specs.Ranges.{mostChannels, mostHops}
-use Rattle.store.specs.Layout.{Store, Long, linksOf, channelsOf, rowChannelOf, rowPlaceOf, hopsOf, routeOf, sentOf}
+use Rattle.store.specs.Layout.{Store, Long, linksOf, rowChannelOf, rowPlaceOf, hopsOf, routeOf, sentOf, IsChannel}
 use Rattle.store.specs.Amounts.{reservedOf, enteredOf, heldOf}
 use Rattle.store.specs.Sound.{soundOf}
 use Rattle.store.specs.Ranged.{Ranged}
@@ -15,7 +15,7 @@ use Rattle.slot_rules.specs.Pick.{pickOf}
 use Rattle.slot_keeps.specs.Room.{leaves, hasRoom, roomAfter}
 
 -- a place of a channel's route can be read, and is on a link
-module _ (w : Store) (sound : soundOf w ≡ true) (c j : ℕ) (h : c < channelsOf w) (i : j < hopsOf w c) where
+module _ (w : Store) (sound : soundOf w ≡ true) (c j : ℕ) (h : IsChannel w c) (i : j < hopsOf w c) where
   pub place-ranged : Ranged w c
   place-ranged = fit-ranged w (sound-fit w sound) c h
 

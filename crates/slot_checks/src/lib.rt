@@ -7,7 +7,7 @@ use store::link;
 ghost use mathlib.Core.Path.{_≡_};
 ghost use mathlib.Core.Bool.{true};
 ghost use Prim.Native.Nat.{_<_};
-ghost use Rattle.store.specs.Layout.{linksOf, channelsOf, hopsOf};
+ghost use Rattle.store.specs.Layout.{linksOf, hopsOf, IsChannel};
 ghost use Rattle.folds.specs.Folds.{every};
 ghost use Rattle.store.specs.Sound.{soundOf};
 ghost use Rattle.slot_rules.specs.Slot.{slotTurn};
@@ -19,7 +19,7 @@ ghost use Rattle.slot_checks.specs.Left.{picksLeft};
 fn leaves(store: &[u64], picks: &[u64; 16], c: usize, j: usize) -> bool
     requires { ⌜ soundOf (now store) ≡ true ⌝ }
     requires { ⌜ now picks ≡ picksTo (now store) (linksOf (now store)) ⌝ }
-    requires { ⌜ c < channelsOf (now store) ⌝ }
+    requires { ⌜ IsChannel (now store) c ⌝ }
     requires { ⌜ j < hopsOf (now store) c ⌝ }
     ensures { λ r. ⌜ r ≡ leavesAt (now (store .entry)) c j ⌝ }
 {
@@ -35,7 +35,7 @@ fn leaves(store: &[u64], picks: &[u64; 16], c: usize, j: usize) -> bool
 fn has_room(store: &[u64], picks: &[u64; 16], c: usize, j: usize) -> bool
     requires { ⌜ soundOf (now store) ≡ true ⌝ }
     requires { ⌜ now picks ≡ picksTo (now store) (linksOf (now store)) ⌝ }
-    requires { ⌜ c < channelsOf (now store) ⌝ }
+    requires { ⌜ IsChannel (now store) c ⌝ }
     requires { ⌜ j < hopsOf (now store) c ⌝ }
     ensures { λ r. ⌜ r ≡ hasRoom (now (store .entry)) c j ⌝ }
 {

@@ -5,8 +5,8 @@ use mathlib.Core.Bool.{Bool, true, false}
 use native.Mathlib.Omega.{arith}
 use lib.ListN.{length}
 use Rattle.kinds.specs.Ranges.{mostChannels, mostHops}
-use Rattle.store.specs.Layout.{Store, numberAt, clockAt, messagesAt, sentAt, timeAt, endAt}
-use Rattle.store.specs.Layout.{linksOf, channelsOf, clockOf, hopsOf, messagesOf, routeOf, sentOf, timeOf, endOf}
+use Rattle.store.specs.Layout.{Store, numberAt, clockAt, messagesAt, sentAt, timeAt, endAt, linksOf, clockOf, hopsOf, messagesOf}
+use Rattle.store.specs.Layout.{routeOf, sentOf, timeOf, endOf, IsChannel}
 use Rattle.store.specs.Amounts.{acceptedOf}
 use Rattle.store.proofs.Laws.Layout.{written, beside, as-long}
 use Rattle.store.proofs.Laws.Sound.{Sound}
@@ -31,7 +31,7 @@ module _ {w : Store} (s : Sound w) where
       let g = leaving s l k (omega arith) e in
       other _ _ (few-channels s _ (g .channel)) (few-places s _ _ (g .channel) (g .place)))
 
-  module _ (c j : ℕ) (h : c < channelsOf w) (i : j < hopsOf w c) where
+  module _ (c j : ℕ) (h : IsChannel w c) (i : j < hopsOf w c) where
     -- this place's count: no packet leaves here by the first n links
     pub to-stays : (n : ℕ) → n ≤ linksOf w → (routeOf w c j < n → leaves w c j ≡ true → ⊥)
         → sentOf (movedTo w n) c j ≡ sentOf w c j
@@ -87,7 +87,7 @@ module _ {w : Store} (s : Sound w) where
     pub accepted-after : acceptedOf (moved w) c ≡ acceptedOf w c
     accepted-after = rw messages-after (end-after (messagesOf w c))
 
-  module _ (c j : ℕ) (h : c < channelsOf w) (i : j < hopsOf w c) where
+  module _ (c j : ℕ) (h : IsChannel w c) (i : j < hopsOf w c) where
     count-moved : sentOf (moved w) c j ≡ sentOf (movedTo w (linksOf w)) c j
     count-moved = beside-clock (sentAt c j) (λ e. omega arith)
 

@@ -2,7 +2,7 @@
 use Prim.Native.Nat.{ℕ, zero, suc, _+_, _-_, _<_}
 use mathlib.Core.Path.{_≡_}
 use native.Mathlib.Omega.{arith}
-use Rattle.store.specs.Layout.{Store, channelsOf, hopsOf, sentOf}
+use Rattle.store.specs.Layout.{Store, hopsOf, sentOf, IsChannel}
 use Rattle.folds.specs.Folds.{sumTo}
 use Rattle.store.specs.Amounts.{acceptedOf, deliveredOf, enteredOf, heldOf}
 use Rattle.store.proofs.Laws.Sound.{ChannelIs, Sound}
@@ -14,7 +14,7 @@ unfolding sumTo enteredOf
 conserved-to k zero h = omega (arith, k .flows zero h)
 conserved-to k (suc j) h = omega (arith, k .flows (suc j) h, conserved-to k j (omega arith))
 
-pub conserved : {w : Store} → Sound w → (c : ℕ) → c < channelsOf w
+pub conserved : {w : Store} → Sound w → (c : ℕ) → IsChannel w c
     → sumTo (heldOf w c) (hopsOf w c) + deliveredOf w c ≡ acceptedOf w c
 conserved {w} s c h =
     let k = s .channel c h in

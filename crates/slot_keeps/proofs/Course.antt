@@ -7,7 +7,7 @@ use native.Mathlib.Omega.{arith}
 use lib.Dec.{leb, ltb}
 use borrow.Author.Tests.{leb-true, le-leb}
 use Rattle.kinds.specs.Ranges.{mostChannels}
-use Rattle.store.specs.Layout.{Store, ring, channelsOf, cOf, pOf, hopsOf, messagesOf, sentOf, timeOf, endOf}
+use Rattle.store.specs.Layout.{Store, ring, cOf, pOf, hopsOf, messagesOf, sentOf, timeOf, endOf, IsChannel}
 use Rattle.store.specs.Amounts.{deliveredOf, enteredOf}
 use Rattle.store.specs.Sound.{delivered, follows, inOrder}
 use Rattle.folds.proofs.Folds.{or-true}
@@ -17,8 +17,8 @@ use Rattle.slot_rules.specs.Slot.{moved}
 use Rattle.slot_keeps.specs.Room.{leaves}
 use Rattle.store_same.proofs.Few.{few-channels}
 use Rattle.slot_keeps.proofs.Leaves.{leaving-held}
-use Rattle.slot_keeps.proofs.After.{moved-settled, messages-after, time-after, end-after, accepted-after}
-use Rattle.slot_keeps.proofs.After.{sent-goes, sent-stays, sent-rises}
+use Rattle.slot_keeps.proofs.After.{moved-settled, messages-after, time-after, end-after, accepted-after, sent-goes}
+use Rattle.slot_keeps.proofs.After.{sent-stays, sent-rises}
 
 or-more : (a b a′ b′ : Bool) → (a ≡ true → a′ ≡ true) → (b ≡ true → b′ ≡ true) → (a || b) ≡ true → (a′ || b′) ≡ true
 or-more true b a′ b′ f g e = rw (f refl)
@@ -50,7 +50,7 @@ module _ (w w′ : Store) (c : ℕ) (same-c : cOf w′ c ≡ cOf w c) (same-p : 
       (λ f. let a = and-eq-true-iff (follows w c n) (inOrder w c n kept) .0 f in
       both _ _ (follows-more n (a .0)) (order-more n kept (a .1))) e
 
-module _ {w : Store} (s : Sound w) (c : ℕ) (h : c < channelsOf w) where
+module _ {w : Store} (s : Sound w) (c : ℕ) (h : IsChannel w c) where
   few : c < mostChannels
   few = few-channels s c h
 

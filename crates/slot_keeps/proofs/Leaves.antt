@@ -6,7 +6,7 @@ use mathlib.Core.Bool.{true}
 use native.Mathlib.Decide.{decLt}
 use native.Mathlib.Omega.{arith}
 use borrow.Author.Tests.{ltb-true, eqb-true, eq-eqb}
-use Rattle.store.specs.Layout.{Store, linksOf, channelsOf, rowChannelOf, rowPlaceOf, hopsOf, routeOf, sentOf}
+use Rattle.store.specs.Layout.{Store, linksOf, rowChannelOf, rowPlaceOf, hopsOf, routeOf, sentOf, IsChannel}
 use Rattle.store.specs.Amounts.{enteredOf}
 use Rattle.store.proofs.Laws.Sound.{Good345, RowIs, Sound}
 use Rattle.slot_rules.specs.Pick.{pickOf}
@@ -24,7 +24,7 @@ place-once g i j h k e = go (decLt i j) (decLt j i)
 
 -- link l picks the row of channel c at place j
 pub record Leaving (w : Store) (l c j : ℕ) : Type 0 where
-  pub channel : c < channelsOf w
+  pub channel : IsChannel w c
   pub place : j < hopsOf w c
   pub here : routeOf w c j ≡ l
   pub held : sentOf w c j < enteredOf w c j
@@ -50,7 +50,7 @@ module _ {w : Store} (s : Sound w) where
         goes = rw (r .here, e) (eq-eqb (rowChannelOf w l k) (rowChannelOf w l k) refl);
       }
 
-  module _ (c j : ℕ) (h : c < channelsOf w) (i : j < hopsOf w c) where
+  module _ (c j : ℕ) (h : IsChannel w c) (i : j < hopsOf w c) where
     abbrev l : ℕ
     l = routeOf w c j
 

@@ -5,7 +5,7 @@ use mathlib.Core.Logic.{_⊎_, inl, inr}
 use mathlib.Core.Bool.{true, false}
 use native.Mathlib.Omega.{arith}
 use Rattle.kinds.specs.Ranges.{mostNumber}
-use Rattle.store.specs.Layout.{Store, ring, channelsOf, hopsOf, messagesOf, sentOf, endOf}
+use Rattle.store.specs.Layout.{Store, ring, hopsOf, messagesOf, sentOf, endOf, IsChannel}
 use Rattle.store.specs.Amounts.{acceptedOf, deliveredOf, enteredOf}
 use Rattle.store.proofs.Laws.Sound.{ChannelIs, Sound}
 use Rattle.store_same.proofs.Settled.{channel-kept, hops-kept}
@@ -36,7 +36,7 @@ pub record NextMessage (w w′ : Store) (c j : ℕ) : Type 0 where
   pub packet : packetOf w′ c j ≡ 0
   pub last : packetOf w c j + 1 ≡ packetsOf w c (messageOf w c j)
 
-module _ {w : Store} (s : Sound w) (c j : ℕ) (h : c < channelsOf w) (i : j < hopsOf w c) where
+module _ {w : Store} (s : Sound w) (c j : ℕ) (h : IsChannel w c) (i : j < hopsOf w c) where
   -- the message of packet x after the slot, and before it
   message-kept : (x : ℕ)
       → messageWith (moved w) c x (messagesOf (moved w) c) (ring - 1) ≡ messageWith w c x (messagesOf w c) (ring - 1)

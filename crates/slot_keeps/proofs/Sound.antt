@@ -8,7 +8,7 @@ use native.Mathlib.Omega.{arith}
 use lib.Dec.{leb}
 use borrow.Author.Tests.{leb-false, lt-leb}
 use Rattle.kinds.specs.Ranges.{endSlot}
-use Rattle.store.specs.Layout.{Store, linksOf, channelsOf, clockOf, rowChannelOf, rowPlaceOf, hopsOf, routeOf, sentOf}
+use Rattle.store.specs.Layout.{Store, linksOf, clockOf, rowChannelOf, rowPlaceOf, hopsOf, routeOf, sentOf, IsChannel}
 use Rattle.folds.specs.Folds.{every}
 use Rattle.store.specs.Amounts.{reservedOf, acceptedOf, enteredOf, heldOf}
 use Rattle.store.specs.Sound.{soundOf}
@@ -40,7 +40,7 @@ flows-later w c j h = h
 module _ {w : Store} (s : Sound w) where
   module _ (rooms : (l : ℕ) → l < linksOf w → roomAfter w l ≡ true) where
     -- at the place after one where a packet leaves
-    room-next : (c j : ℕ) → c < channelsOf w → suc j < hopsOf w c → leaves w c j ≡ true → RoomIs w c (suc j)
+    room-next : (c j : ℕ) → IsChannel w c → suc j < hopsOf w c → leaves w c j ≡ true → RoomIs w c (suc j)
     room-next c j h i e =
         let k : j < hopsOf w c = omega arith in
         let r = row-leaving s c j h k e in
@@ -48,7 +48,7 @@ module _ {w : Store} (s : Sound w) where
         (rw (r .picks, roomFrom, r .channel, r .place, add-one j, lt-leb (hopsOf w c) (suc j) i) at
         (rooms (routeOf w c j) (s .channel c h .route .known j k)))
 
-    held-after : (c j : ℕ) → c < channelsOf w → j < hopsOf w c → heldOf (moved w) c j ≤ reservedOf w c j
+    held-after : (c j : ℕ) → IsChannel w c → j < hopsOf w c → heldOf (moved w) c j ≤ reservedOf w c j
     held-after c zero h i =
         let a = held-most s c zero h i in
         let b = accepted-after s c (few-channels s c h) in
@@ -75,13 +75,13 @@ module _ {w : Store} (s : Sound w) where
 
   -- and back: a packet that leaves has room
   module _ (t : Sound (moved w)) where
-    held-within : (c j : ℕ) → c < channelsOf w → j < hopsOf w c → heldOf (moved w) c j ≤ reservedOf w c j
+    held-within : (c j : ℕ) → IsChannel w c → j < hopsOf w c → heldOf (moved w) c j ≤ reservedOf w c j
     held-within c j h i =
         rw (reserved-kept (moved-settled s) s c h j i) at
         (held-most t c j (rw (channels-same (moved-settled s)) h) (rw (hops-kept (moved-settled s) c (few-channels s c h)) i))
 
     -- else one more would be held there than is reserved
-    room-found : (c j : ℕ) → c < channelsOf w → suc j < hopsOf w c → leaves w c j ≡ true → (b : Bool) → leaves w c (suc j) ≡ b
+    room-found : (c j : ℕ) → IsChannel w c → suc j < hopsOf w c → leaves w c j ≡ true → (b : Bool) → leaves w c (suc j) ≡ b
         → RoomIs w c (suc j)
     room-found c j h i e true f = inr f
     room-found c j h i e false f =

@@ -7,7 +7,7 @@ use native.Mathlib.Numerals.{unary-clauses}
 use native.Mathlib.Omega.{arith}
 use borrow.Author.Tests.{le-leb, lt-leb, ltb-true}
 use Rattle.kinds.specs.Ranges.{mostChannels, mostHops, mostP, mostNumber}
-use Rattle.store.specs.Layout.{Store, Long, ring, placeBefore, channelsOf, hopsOf, delayOf, sentOf, timeOf, endOf}
+use Rattle.store.specs.Layout.{Store, Long, ring, placeBefore, hopsOf, delayOf, sentOf, timeOf, endOf, IsChannel}
 use Rattle.folds.specs.Folds.{sumTo}
 use Rattle.store.specs.Amounts.{enteredOf}
 use Rattle.store.specs.Sound.{soundOf}
@@ -78,7 +78,7 @@ module _ (w : Store) (c j x n at left : ℕ) (o : Looking w c j x n at left) (z 
       record { place = place-back; same = o .same ∙ message-back w c x n left e h z (end-back e f) l }
 
 -- Place j of the route of a sound channel: it can be read, and a logical time there is far from 2 ^ 64.
-module _ (w : Store) (e : soundOf w ≡ true) (c j : ℕ) (h : c < channelsOf w) (l : j < hopsOf w c) where
+module _ (w : Store) (e : soundOf w ≡ true) (c j : ℕ) (h : IsChannel w c) (l : j < hopsOf w c) where
   k : ChannelIs w c
   k = sound-is w e .channel c h
 

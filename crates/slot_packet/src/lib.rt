@@ -4,7 +4,7 @@ ghost use mathlib.Core.Path.{_≡_};
 ghost use mathlib.Core.Bool.{true};
 ghost use Prim.Native.Nat.{_%_, _<_};
 ghost use Rattle.kinds.specs.Ranges.{mostChannels, mostHops};
-ghost use Rattle.store.specs.Layout.{Long, ring, channelsOf, hopsOf, delayOf};
+ghost use Rattle.store.specs.Layout.{Long, ring, hopsOf, delayOf, IsChannel};
 ghost use Rattle.folds.specs.Folds.{sumTo};
 ghost use Rattle.store.specs.Sound.{soundOf};
 ghost use Rattle.store.specs.Ranged.{Ranged};
@@ -73,7 +73,7 @@ fn offset(store: &[u64], c: usize, j: usize) -> u64
 // The logical time of the packet that goes next at place `j` of a channel's route, where one is held.
 pub fn logical(store: &[u64], c: usize, j: usize) -> u64
     requires { ⌜ soundOf (now store) ≡ true ⌝ }
-    requires { ⌜ c < channelsOf (now store) ⌝ }
+    requires { ⌜ IsChannel (now store) c ⌝ }
     requires { ⌜ j < hopsOf (now store) c ⌝ }
     requires { ⌜ isHeld (now store) c j ≡ true ⌝ }
     ensures { λ r. ⌜ r ≡ logicalOf (now (store .entry)) c j ⌝ }

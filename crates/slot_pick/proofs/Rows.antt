@@ -7,8 +7,8 @@ use mir.Syntax.{w64}
 use mir.Val.{Fits}
 use borrow.Author.Tests.{lt-ltb, le-ltb, le-leb, lt-leb}
 use Rattle.kinds.specs.Ranges.{mostLinks, mostRows, mostChannels, mostHops, mostP, endSlot}
-use Rattle.store.specs.Layout.{Store, Long, linksOf, channelsOf, clockOf, horizonOf, rowsOf, rowChannelOf, rowPlaceOf}
-use Rattle.store.specs.Layout.{hopsOf, delayOf, sentOf}
+use Rattle.store.specs.Layout.{Store, Long, linksOf, clockOf, horizonOf, rowsOf, rowChannelOf, rowPlaceOf, hopsOf, delayOf}
+use Rattle.store.specs.Layout.{sentOf, IsChannel}
 use Rattle.store.specs.Amounts.{enteredOf}
 use Rattle.store.specs.Sound.{soundOf}
 use Rattle.store.proofs.Laws.Sound.{Sound, RowIs, sound-is}
@@ -42,7 +42,7 @@ module _ {w : Store} {l k c j : ℕ} (r : Row w l k c j) where
   stands : RowIs w l k
   stands = sound-is w (r .sound) .rows l (r .there) .rows k (r .below)
 
-  pub row-channel : c < channelsOf w
+  pub row-channel : IsChannel w c
   row-channel = rw (r .its-channel) (stands .channel)
 
   pub row-place : j < hopsOf w c

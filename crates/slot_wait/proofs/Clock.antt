@@ -1,5 +1,5 @@
 -- A store whose clock alone was changed: everything else in it is as before, and it is as sound as it was.
-use Prim.Native.Nat.{ℕ, zero, suc, _+_, _-_, _≤_, _<_}
+use Prim.Native.Nat.{ℕ, zero, suc, _+_, _-_, _≤_}
 use mathlib.Core.Path.{_≡_, refl}
 use mathlib.Core.Bool.{Bool, true, false}
 use native.Mathlib.Omega.{arith}
@@ -7,8 +7,8 @@ use lib.Dec.{leb}
 use lib.Seq.{set-getD}
 use Rattle.kinds.specs.Ranges.{endSlot}
 use Rattle.store.specs.Layout.{Store, Long, ring, numberAt, withClock, clockAt, linksAt, horizonAt, rowsAt, rowChannelAt}
-use Rattle.store.specs.Layout.{rowPlaceAt, messagesAt, delayAt, sentAt, timeAt, endAt, clockOf, linksOf, channelsOf, horizonOf}
-use Rattle.store.specs.Layout.{rowsOf, rowChannelOf, rowPlaceOf, messagesOf, delayOf, sentOf, timeOf, endOf}
+use Rattle.store.specs.Layout.{rowPlaceAt, messagesAt, delayAt, sentAt, timeAt, endAt, clockOf, linksOf, horizonOf, rowsOf}
+use Rattle.store.specs.Layout.{rowChannelOf, rowPlaceOf, messagesOf, delayOf, sentOf, timeOf, endOf, IsChannel}
 use Rattle.store.specs.Amounts.{enteredOf}
 use Rattle.store.specs.Sound.{soundOf}
 use Rattle.folds.proofs.Folds.{sum-same}
@@ -116,7 +116,7 @@ clock-sound w t e h =
     s : Sound w
     s = sound-is w e
 
-    course : (c : ℕ) → c < channelsOf w → CourseIs (withClock w t) c
+    course : (c : ℕ) → IsChannel w c → CourseIs (withClock w t) c
     course c i =
         let k = channel-same (record-same w t c) (network-same (clock-settled w t)) (s .counts .links-most) (s .channel c i) in
         record {

@@ -5,8 +5,8 @@ use mathlib.Core.Bool.{true, false}
 use native.Mathlib.Omega.{arith}
 use borrow.Author.Tests.{lt-ltb, le-ltb}
 use Rattle.kinds.specs.Ranges.{mostChannels, mostHops}
-use Rattle.store.specs.Layout.{Store, Long, linksOf, channelsOf, clockOf, horizonOf, rowsOf, rowChannelOf, rowPlaceOf, hopsOf}
-use Rattle.store.specs.Layout.{sentOf}
+use Rattle.store.specs.Layout.{Store, Long, linksOf, clockOf, horizonOf, rowsOf, rowChannelOf, rowPlaceOf, hopsOf, sentOf}
+use Rattle.store.specs.Layout.{IsChannel}
 use Rattle.store.specs.Amounts.{enteredOf}
 use Rattle.store.specs.Sound.{soundOf}
 use Rattle.store.proofs.Laws.Sound.{Sound, RowIs, sound-is}
@@ -29,7 +29,7 @@ module _ {w : Store} {l k c j : ℕ} (r : Row w l k c j) where
   stands : RowIs w l k
   stands = s .rows l (r .there) .rows k (r .below)
 
-  pub row-channel : c < channelsOf w
+  pub row-channel : IsChannel w c
   row-channel = rw (r .its-channel) (stands .channel)
 
   pub row-place : j < hopsOf w c

@@ -1,7 +1,9 @@
 -- The lent store, number by number. docs/STORE.md is this page as a table. Nothing else names a place: the code and the
 -- definitions above read a field by its name and write it by its `with` name.
-use Prim.Native.Nat.{ℕ, zero, suc, _+_, _-_, _*_, _%_, _≤_}
+use Prim.Native.Nat.{ℕ, zero, suc, _+_, _-_, _*_, _%_, _≤_, _<_}
+use mathlib.Core.Bool.{Bool}
 use mathlib.Core.List.{List}
+use lib.Dec.{ltb}
 use lib.ListN.{length, getD, set}
 
 abbrev pub Store : Type 0
@@ -133,6 +135,13 @@ channelsOf w = numberAt w channelsAt
 
 abbrev pub withChannels : Store → ℕ → Store
 withChannels w v = withNumber w channelsAt v
+
+-- channel x exists: channels are "numbered from 0 as opened". As a test, and as a fact.
+abbrev pub isChannel : Store → (x : ℕ) → Bool
+isChannel w x = ltb x (channelsOf w)
+
+abbrev pub IsChannel : Store → (x : ℕ) → Type 0
+IsChannel w x = x < channelsOf w
 
 abbrev pub clockOf : Store → ℕ
 clockOf w = numberAt w clockAt

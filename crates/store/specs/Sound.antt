@@ -7,8 +7,9 @@ use lib.Dec.{eqb, leb, ltb}
 use lib.ListN.{length}
 use Rattle.kinds.specs.Ranges.{within, inRangeLinks, inRangeChannels, inRangeRows, inRangeHops, isSlot, isNumber}
 use Rattle.kinds.specs.Checks.{linkPasses, channelPasses}
-use Rattle.store.specs.Layout.{Store, storeLength, ring, linksOf, channelsOf, clockOf, fromOf, toOf, horizonOf, bufferOf, rowsOf}
-use Rattle.store.specs.Layout.{rowChannelOf, rowPlaceOf, cOf, pOf, dOf, bOf, hopsOf, messagesOf, routeOf, delayOf, sentOf, timeOf, endOf}
+use Rattle.store.specs.Layout.{Store, storeLength, ring, linksOf, channelsOf, clockOf, fromOf, toOf, horizonOf, bufferOf}
+use Rattle.store.specs.Layout.{rowsOf, rowChannelOf, rowPlaceOf, cOf, pOf, dOf, bOf, hopsOf, messagesOf, routeOf, delayOf}
+use Rattle.store.specs.Layout.{sentOf, timeOf, endOf, isChannel}
 use Rattle.folds.specs.Folds.{every, some, sumTo}
 use Rattle.store.specs.Route.{routePasses}
 use Rattle.store.specs.Amounts.{reservedOf, acceptedOf, deliveredOf, enteredOf, heldOf}
@@ -65,7 +66,7 @@ channelSound w c = channelFits w c && (every (placeFits w c) (hopsOf w c) && mes
 -- there; and (`listed`, below) each place of each route is a row of its link
 abbrev pub rowStands : Store → (l k : ℕ) → Bool
 rowStands w l k =
-    ltb (rowChannelOf w l k) (channelsOf w)
+    isChannel w (rowChannelOf w l k)
     && (ltb (rowPlaceOf w l k) (hopsOf w (rowChannelOf w l k)) && eqb (routeOf w (rowChannelOf w l k) (rowPlaceOf w l k)) l)
 
 -- the delay of row k

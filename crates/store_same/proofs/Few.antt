@@ -2,17 +2,17 @@
 use Prim.Native.Nat.{ℕ, _<_}
 use native.Mathlib.Omega.{arith}
 use Rattle.kinds.specs.Ranges.{mostLinks, mostChannels, mostRows, mostHops}
-use Rattle.store.specs.Layout.{Store, linksOf, channelsOf, rowsOf, hopsOf}
+use Rattle.store.specs.Layout.{Store, linksOf, rowsOf, hopsOf, IsChannel}
 use Rattle.store.proofs.Laws.Sound.{Sound}
 
 module _ {w : Store} (sound : Sound w) where
-  pub few-channels : (c : ℕ) → c < channelsOf w → c < mostChannels
+  pub few-channels : (c : ℕ) → IsChannel w c → c < mostChannels
   few-channels c h = omega (arith, sound .counts .channels-most)
 
   pub few-links : (l : ℕ) → l < linksOf w → l < mostLinks
   few-links l h = omega (arith, sound .counts .links-most)
 
-  pub few-places : (c j : ℕ) → c < channelsOf w → j < hopsOf w c → j < mostHops
+  pub few-places : (c j : ℕ) → IsChannel w c → j < hopsOf w c → j < mostHops
   few-places c j h i = omega (arith, sound .channel c h .hops-most)
 
   pub few-rows : (l k : ℕ) → l < linksOf w → k < rowsOf w l → k < mostRows

@@ -4,7 +4,7 @@ use Prim.Native.Nat.{ℕ, _<_}
 use mathlib.Core.Path.{_≡_}
 use native.Mathlib.Omega.{arith}
 use Rattle.kinds.specs.Ranges.{mostChannels}
-use Rattle.store.specs.Layout.{Store, channelsOf, cOf, pOf, dOf, bOf, hopsOf, routeOf, delayOf, horizonOf}
+use Rattle.store.specs.Layout.{Store, cOf, pOf, dOf, bOf, hopsOf, routeOf, delayOf, horizonOf, IsChannel}
 use Rattle.store.specs.Amounts.{reservedOf}
 use Rattle.store.proofs.Laws.Sound.{Sound}
 use Rattle.store_same.proofs.Few.{few-channels, few-links, few-places}
@@ -14,7 +14,7 @@ use Rattle.store_same.proofs.Settled.{Settled, channels-same, c-kept, p
 use Rattle.store_same.proofs.Settled.{delay-kept, reserved-kept}
 
 pub record SameNumbers (w w′ : Store) (c : ℕ) : Type 0 where
-  pub there : c < channelsOf w′
+  pub there : IsChannel w′ c
   pub c-is : cOf w′ c ≡ cOf w c
   pub p-is : pOf w′ c ≡ pOf w c
   pub d-is : dOf w′ c ≡ dOf w c
@@ -25,7 +25,7 @@ pub record SameNumbers (w w′ : Store) (c : ℕ) : Type 0 where
   pub reserved-is : (j : ℕ) → j < hopsOf w c → reservedOf w′ c j ≡ reservedOf w c j
 
 module _ {w w′ : Store} (sound : Sound w) where
-  pub settled-numbers : Settled w w′ → (c : ℕ) → c < channelsOf w → SameNumbers w w′ c
+  pub settled-numbers : Settled w w′ → (c : ℕ) → IsChannel w c → SameNumbers w w′ c
   settled-numbers settled c h =
       let few : c < mostChannels = few-channels sound c h in
       record {
@@ -40,7 +40,7 @@ module _ {w w′ : Store} (sound : Sound w) where
         reserved-is = reserved-kept settled sound c h;
       }
 
-  pub kept-numbers : Keeps w w′ → (c : ℕ) → c < channelsOf w → SameNumbers w w′ c
+  pub kept-numbers : Keeps w w′ → (c : ℕ) → IsChannel w c → SameNumbers w w′ c
   kept-numbers keeps c h =
       let same : SameRecord w w′ c = keeps .channel c h in
       record {
@@ -56,7 +56,7 @@ module _ {w w′ : Store} (sound : Sound w) where
       }
 
   -- the horizon of a link of its route
-  pub horizon-is : SameNetwork w w′ → {c : ℕ} → SameNumbers w w′ c → c < channelsOf w → (j : ℕ) → j < hopsOf w c
+  pub horizon-is : SameNetwork w w′ → {c : ℕ} → SameNumbers w w′ c → IsChannel w c → (j : ℕ) → j < hopsOf w c
       → horizonOf w′ (routeOf w′ c j) ≡ horizonOf w (routeOf w c j)
   horizon-is network {c} same h j i =
       rw (same .route-is j i)

@@ -4,10 +4,9 @@ use Prim.Native.Nat.{ℕ, zero, suc, _+_, _-_, _≤_, _<_}
 use mathlib.Core.Path.{_≡_, sym, _∙_}
 use native.Mathlib.Omega.{arith}
 use Rattle.kinds.specs.Ranges.{mostLinks, mostHops}
-use Rattle.store.specs.Layout.{Store, numberAt, channelAt, recordLength, ring}
-use Rattle.store.specs.Layout.{linksOf, channelsOf, fromOf, toOf, horizonOf, bufferOf}
-use Rattle.store.specs.Layout.{cOf, pOf, dOf, bOf, hopsOf, messagesOf, routeOf, delayOf, sentOf, timeOf, endOf}
-use Rattle.store.specs.Layout.{cAt, pAt, dAt, bAt, hopsAt, messagesAt, routeAt, delayAt, sentAt, timeAt, endAt}
+use Rattle.store.specs.Layout.{Store, numberAt, channelAt, recordLength, ring, linksOf, channelsOf, fromOf, toOf, horizonOf}
+use Rattle.store.specs.Layout.{bufferOf, cOf, pOf, dOf, bOf, hopsOf, messagesOf, routeOf, delayOf, sentOf, timeOf, endOf, cAt}
+use Rattle.store.specs.Layout.{pAt, dAt, bAt, hopsAt, messagesAt, routeAt, delayAt, sentAt, timeAt, endAt, IsChannel}
 use Rattle.store.specs.Amounts.{reservedOf, acceptedOf, deliveredOf, enteredOf, heldOf}
 use Rattle.store.specs.Sound.{delivered, follows, inOrder}
 use Rattle.store.proofs.Laws.Sound.{Good345, ChannelIs}
@@ -28,7 +27,7 @@ pub record SameRecord (w w′ : Store) (c : ℕ) : Type 0 where
 pub record Keeps (w w′ : Store) : Type 0 where
   pub network : SameNetwork w w′
   pub more : channelsOf w ≤ channelsOf w′
-  pub channel : (c : ℕ) → c < channelsOf w → SameRecord w w′ c
+  pub channel : (c : ℕ) → IsChannel w c → SameRecord w w′ c
 
 -- a route that passes 3, 4 and 5
 pub good-same : {w w′ : Store} → SameNetwork w w′ → linksOf w ≤ mostLinks → (route route′ : ℕ → ℕ) (n : ℕ)

@@ -8,9 +8,9 @@ use native.Mathlib.Omega.{arith}
 use lib.ListN.{length}
 use Rattle.kinds.specs.Ranges.{mostLinks, mostChannels, mostRows, mostHops, mostNumber, endSlot}
 use Rattle.store.specs.Layout.{Store, ring, numberAt, channelAt, linksAt, channelsAt, clockAt, fromAt, toAt, horizonAt, bufferAt}
-use Rattle.store.specs.Layout.{rowsAt, rowChannelAt, rowPlaceAt, cAt, messagesAt, routeAt, delayAt, sentAt, courseEnd}
-use Rattle.store.specs.Layout.{linksOf, channelsOf, clockOf, rowsOf, rowChannelOf, rowPlaceOf}
-use Rattle.store.specs.Layout.{cOf, pOf, dOf, bOf, hopsOf, messagesOf, routeOf, delayOf, sentOf, timeOf}
+use Rattle.store.specs.Layout.{rowsAt, rowChannelAt, rowPlaceAt, cAt, messagesAt, routeAt, delayAt, sentAt, courseEnd, linksOf}
+use Rattle.store.specs.Layout.{channelsOf, clockOf, rowsOf, rowChannelOf, rowPlaceOf, cOf, pOf, dOf, bOf, hopsOf, messagesOf}
+use Rattle.store.specs.Layout.{routeOf, delayOf, sentOf, timeOf, IsChannel}
 use Rattle.folds.specs.Folds.{sumTo}
 use Rattle.store.specs.Amounts.{reservedOf, acceptedOf, enteredOf, heldOf}
 use Rattle.store.specs.Sound.{inOrder, rowDelayOf, rowReservedOf}
@@ -93,7 +93,7 @@ module _ {w w′ : Store} (s : Settled w w′) where
 
   -- of a sound store
   module _ (sound : Sound w) where
-    module _ (c : ℕ) (h : c < channelsOf w) where
+    module _ (c : ℕ) (h : IsChannel w c) where
       pub reserved-kept : (j : ℕ) → j < hopsOf w c → reservedOf w′ c j ≡ reservedOf w c j
       unfolding reservedOf
       reserved-kept zero i = rw (c-kept c (few-channels sound c h), b-kept c (few-channels sound c h))
@@ -168,8 +168,8 @@ module _ {w w′ : Store} (s : Settled w w′) where
             (reserved-kept (rowChannelOf w l k) (old .channel) (rowPlaceOf w l k) (old .place))
 
     -- the store is sound where each channel's course is and no place holds more than is reserved there
-    module _ (clock : clockOf w′ ≤ endSlot) (course : (c : ℕ) → c < channelsOf w → CourseIs w′ c)
-        (held : (c j : ℕ) → c < channelsOf w → j < hopsOf w c → heldOf w′ c j ≤ reservedOf w c j) where
+    module _ (clock : clockOf w′ ≤ endSlot) (course : (c : ℕ) → IsChannel w c → CourseIs w′ c)
+        (held : (c j : ℕ) → IsChannel w c → j < hopsOf w c → heldOf w′ c j ≤ reservedOf w c j) where
       rows-kept : (l : ℕ) → l < linksOf w → RowsAre w′ l
       rows-kept l h = record {
         rows = λ k i. row-kept l h k (inside-old k i);
@@ -221,7 +221,7 @@ module _ {w w′ : Store} (s : Settled w w′) where
                 rows-most = rw (rows-same l a) (sound .link l h .rows-most);
               }
 
-          row : (c j : ℕ) → c < channelsOf w → j < hopsOf w′ c → RowFor w′ c j (routeOf w′ c j)
+          row : (c j : ℕ) → IsChannel w c → j < hopsOf w′ c → RowFor w′ c j (routeOf w′ c j)
           row c j h i =
               let a : c < mostChannels = few-channels sound c h in
               let k : j < hopsOf w c = rw (hops-kept c a) at i in

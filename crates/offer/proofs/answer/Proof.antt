@@ -1,5 +1,4 @@
 -- `offer::answer` meets its contract: each check is looked at once those before it hold.
-use Prim.Native.Nat.{_<_}
 use mathlib.Core.Path.{_≡_, refl, sym, _∙_}
 use mathlib.Core.Bool.{true}
 use mathlib.Core.List.{List}
@@ -7,7 +6,7 @@ use borrow.Author.Needs.{needs}
 use borrow.Author.Tests.{ltb-true}
 use lib.ListN.{take}
 use Rattle.kinds.proofs.Laws.{refuted, held}
-use Rattle.store.specs.Layout.{Store, channelsOf}
+use Rattle.store.specs.Layout.{Store, IsChannel}
 use Rattle.store.specs.Sound.{soundOf}
 use Rattle.store.proofs.Laws.Sound.{sound-is}
 use Rattle.checks.specs.Checks.{Check}
@@ -58,7 +57,7 @@ past-11 c =
     one-more (checks (start-11 c)) 2 refl (past-14 (c .before)) (known (c .before .before .channels .ensures) (c .if3 .left))
 
 -- What the functions that read the channel ask.
-inside : (c : tie.Else3) → (soundOf (store (start-11 c)) ≡ true) × (start-11 c .args .c < channelsOf (store (start-11 c)))
+inside : (c : tie.Else3) → (soundOf (store (start-11 c)) ≡ true) × (IsChannel (store (start-11 c)) (start-11 c .args .c))
 inside c = let h = past-11 c in (h .0, ltb-true _ _ (h .1 .1 .0))
 
 past-12 : (c : tie.Else4) → AllHold (take 4 (checks (start-12 c)))

@@ -3,9 +3,9 @@ use Prim.Native.Nat.{ℕ, _+_, _≤_, _<_}
 use mathlib.Core.Path.{_≡_, sym, _∙_}
 use native.Mathlib.Omega.{arith}
 use Rattle.kinds.specs.Ranges.{mostLinks, mostChannels, mostHops, mostRows}
-use Rattle.store.specs.Layout.{Store, Long, numberAt, channelAt, channelsAt, cAt, pAt, dAt, bAt, hopsAt, messagesAt}
-use Rattle.store.specs.Layout.{routeAt, delayAt, sentAt, timeAt, endAt, channelsOf, withChannels, rowsOf, rowChannelOf}
-use Rattle.store.specs.Layout.{rowPlaceOf, routeOf}
+use Rattle.store.specs.Layout.{Store, Long, numberAt, channelAt, channelsAt, cAt, pAt, dAt, bAt, hopsAt, messagesAt, routeAt}
+use Rattle.store.specs.Layout.{delayAt, sentAt, timeAt, endAt, channelsOf, withChannels, rowsOf, rowChannelOf, rowPlaceOf}
+use Rattle.store.specs.Layout.{routeOf, IsChannel}
 use Rattle.store.proofs.Laws.Layout.{written, beside, as-long}
 use Rattle.store.proofs.Laws.Sound.{Sound, sound-is}
 use Rattle.open_rules.specs.Request.{Request, hops, link}
@@ -47,7 +47,7 @@ module _ (w : Store) (q : Request) (early : Early w q) where
   pub early-link : (j : ℕ) → j < hops q → link q j < mostLinks
   early-link j h = omega (arith, early .route .known j h, sound .counts .links-most)
 
-  pub early-row-channel : (j k : ℕ) → j < hops q → k < rowsOf w (link q j) → rowChannelOf w (link q j) k < channelsOf w
+  pub early-row-channel : (j k : ℕ) → j < hops q → k < rowsOf w (link q j) → IsChannel w (rowChannelOf w (link q j) k)
   early-row-channel j k h l = sound .rows (link q j) (early .route .known j h) .rows k l .channel
 
   pub early-row-place : (j k : ℕ) → j < hops q → k < rowsOf w (link q j) → rowPlaceOf w (link q j) k < mostHops

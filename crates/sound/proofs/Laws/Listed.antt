@@ -10,14 +10,14 @@ use lib.Dec.{eqb}
 use borrow.Author.Tests.{eqb-true, eq-eqb, ne-eqb}
 use Rattle.kinds.specs.Ranges.{mostChannels}
 use Rattle.kinds.proofs.Laws.{never}
-use Rattle.store.specs.Layout.{Store, linksOf, channelsOf, rowsOf, rowChannelOf, rowPlaceOf, hopsOf, routeOf}
+use Rattle.store.specs.Layout.{Store, linksOf, channelsOf, rowsOf, rowChannelOf, rowPlaceOf, hopsOf, routeOf, IsChannel}
 use Rattle.folds.specs.Folds.{every, sumTo}
 use Rattle.store.specs.Sound.{rowDelayOf, rowsSound, rowIs, listed, allListed}
 use Rattle.store.specs.Ranged.{Fit}
 use Rattle.folds.proofs.Folds.{below, every-at}
 use Rattle.store.proofs.Laws.Sound.{Before, RowsAre, rows-are, fit-counts, fit-channel}
-use Rattle.sound.proofs.Laws.Counting.{count, unit, sum-zero, sum-only, count-some, count-full, count-less}
-use Rattle.sound.proofs.Laws.Counting.{sums-equal, all-rows}
+use Rattle.sound.proofs.Laws.Counting.{count, unit, sum-zero, sum-only, count-some, count-full, count-less, sums-equal}
+use Rattle.sound.proofs.Laws.Counting.{all-rows}
 
 -- the order of rows as one number that rises
 abbrev key : (d c : ℕ) → ℕ
@@ -36,7 +36,7 @@ module _ (w : Store) (f : Fit w) (s : every (rowsSound w) (linksOf w) ≡ true) 
 
   key-next : (l k : ℕ) → l < linksOf w → suc k < rowsOf w l → row-key l k < row-key l (suc k)
   key-next l k hl hk =
-      let c : rowChannelOf w l k < channelsOf w = rows-on l hl .rows k (omega arith) .channel in
+      let c : IsChannel w (rowChannelOf w l k) = rows-on l hl .rows k (omega arith) .channel in
       let m : rowChannelOf w l k < mostChannels = omega (arith, fit-counts w f .channels-most) in
       key-less (rowDelayOf w l k) (rowChannelOf w l k) (rowDelayOf w l (suc k)) (rowChannelOf w l (suc k)) m (rows-on l hl .sorted k hk)
 
@@ -68,7 +68,7 @@ module _ (w : Store) (f : Fit w) (s : every (rowsSound w) (linksOf w) ≡ true) 
       ∙ sum-only (λ j. count (rowIs w c j l) k) (hopsOf w c) j (t .place) other-place
       ∙ rw (eq-eqb c c refl, eq-eqb j j refl)
     where
-      other-channel : (c : ℕ) → c < channelsOf w → (c ≡ rowChannelOf w l k → ⊥)
+      other-channel : (c : ℕ) → IsChannel w c → (c ≡ rowChannelOf w l k → ⊥)
           → sumTo (λ j. count (rowIs w c j l) k) (hopsOf w c) ≡ 0
       other-channel c h n =
           sum-zero (λ j. count (rowIs w c j l) k) (hopsOf w c) (λ j b. rw (ne-eqb (rowChannelOf w l k) c (λ e. n (sym e))))
@@ -78,7 +78,7 @@ module _ (w : Store) (f : Fit w) (s : every (rowsSound w) (linksOf w) ≡ true) 
       other-place j h n = rw (eq-eqb (rowChannelOf w l k) (rowChannelOf w l k) refl, ne-eqb (rowPlaceOf w l k) j (λ e. n (sym e)))
 
   -- a place is a row of its own link alone, and once
-  of-place : (c j : ℕ) → c < channelsOf w → j < hopsOf w c
+  of-place : (c j : ℕ) → IsChannel w c → j < hopsOf w c
       → sumTo (λ l. sumTo (count (rowIs w c j l)) (rowsOf w l)) (linksOf w) ≡ unit (listed w c j)
   of-place c j hc hj =
       let l = routeOf w c j in

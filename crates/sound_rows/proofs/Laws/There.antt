@@ -3,7 +3,7 @@ use Prim.Native.Nat.{ℕ, _≤_, _<_}
 use mathlib.Core.Path.{_≡_}
 use native.Mathlib.Omega.{arith}
 use Rattle.kinds.specs.Ranges.{mostLinks, mostRows, mostChannels, mostHops}
-use Rattle.store.specs.Layout.{Store, linksOf, rowsOf, channelsOf, hopsOf}
+use Rattle.store.specs.Layout.{Store, linksOf, rowsOf, channelsOf, hopsOf, IsChannel}
 use Rattle.store.specs.Ranged.{Fit}
 use Rattle.store.proofs.Laws.Sound.{fit-counts, fit-rows, fit-ranged}
 
@@ -19,7 +19,7 @@ module _ (w : Store) (f : Fit w) where
     rows-most v g = rw g (fit-rows w f l a-link)
 
   module _ (c n : ℕ) (e : n ≡ channelsOf w) (h : c < n) where
-    pub a-channel : c < channelsOf w
+    pub a-channel : IsChannel w c
     a-channel = rw e at h
 
     pub channel-most : c < mostChannels

@@ -11,8 +11,7 @@ use mir.Syntax.{w64}
 use mir.Val.{Fits}
 use borrow.Author.Tests.{lt-ltb, le-leb, lt-leb}
 use Rattle.kinds.specs.Ranges.{mostChannels, mostRows, mostHops}
-use Rattle.store.specs.Layout.{Store, channelsOf, bufferOf, rowsOf, rowChannelOf, rowPlaceOf}
-use Rattle.store.specs.Layout.{pOf, hopsOf, delayOf, sentOf}
+use Rattle.store.specs.Layout.{Store, bufferOf, rowsOf, rowChannelOf, rowPlaceOf, pOf, hopsOf, delayOf, sentOf, IsChannel}
 use Rattle.store.specs.Amounts.{mostReserved, reservedOf, enteredOf, heldOf}
 use Rattle.store.specs.Sound.{rowStands, rowDelayOf, rowFollows, rowReservedOf, rowHolds, rowSound, rowsSound}
 use Rattle.store.specs.Ranged.{Ranged, Fit}
@@ -66,7 +65,7 @@ module _ {w : Store} {l k c j : ℕ} (r : Row w l k c j) where
     s : rowStands w l k ≡ true
     s = rw (r .its-channel, r .its-place) at e
 
-    row-channel : c < channelsOf w
+    row-channel : IsChannel w c
     row-channel = rw (r .its-channel) (row-is w l k s .channel)
 
     pub row-place : j < hopsOf w c

@@ -7,17 +7,20 @@ use native.Mathlib.Omega.{arith}
 use lib.Dec.{eqb, leb, ltb}
 use lib.ListN.{length}
 use borrow.Author.Tests.{le-leb, leb-true, lt-ltb, ltb-true, eq-eqb, eqb-true, ne-eqb, eqb-false, not-true}
-use Rattle.kinds.specs.Ranges.{mostLinks, mostChannels, mostRows, mostHops, endSlot, mostNumber}
-use Rattle.kinds.specs.Ranges.{inRangeLinks, inRangeChannels, inRangeHops, isNumber, within}
+use Rattle.kinds.specs.Ranges.{mostLinks, mostChannels, mostRows, mostHops, endSlot, mostNumber, inRangeLinks, inRangeChannels}
+use Rattle.kinds.specs.Ranges.{inRangeHops, isNumber, within}
 use Rattle.kinds.specs.Checks.{linkPasses, channelPasses}
-use Rattle.kinds.proofs.Laws.{within-true, true-within, GoodLink, link-bounds, bounds-link, GoodChannel, channel-bounds, bounds-channel}
-use Rattle.store.specs.Layout.{Store, Long, storeLength, ring, linksOf, channelsOf, clockOf, fromOf, toOf, horizonOf, bufferOf, rowsOf}
-use Rattle.store.specs.Layout.{rowChannelOf, rowPlaceOf, cOf, pOf, dOf, bOf, hopsOf, messagesOf, routeOf, delayOf, sentOf, timeOf}
+use Rattle.kinds.proofs.Laws.{within-true, true-within, GoodLink, link-bounds, bounds-link, GoodChannel, channel-bounds}
+use Rattle.kinds.proofs.Laws.{bounds-channel}
+use Rattle.store.specs.Layout.{Store, Long, storeLength, ring, linksOf, channelsOf, clockOf, fromOf, toOf, horizonOf}
+use Rattle.store.specs.Layout.{bufferOf, rowsOf, rowChannelOf, rowPlaceOf, cOf, pOf, dOf, bOf, hopsOf, messagesOf, routeOf}
+use Rattle.store.specs.Layout.{delayOf, sentOf, timeOf, IsChannel}
 use Rattle.folds.specs.Folds.{every, sumTo}
 use Rattle.store.specs.Route.{exists, differs, isNew, joins, routePasses}
 use Rattle.store.specs.Amounts.{reservedOf, acceptedOf, enteredOf, heldOf}
-use Rattle.store.specs.Sound.{longEnough, countsFit, linkFits, channelFits, placeFits, channelSound, inOrder, rowStands, rowDelayOf, rowFollows}
-use Rattle.store.specs.Sound.{rowReservedOf, rowHolds, rowSound, rowsSound, rowIs, listed, allListed, soundOf}
+use Rattle.store.specs.Sound.{longEnough, countsFit, linkFits, channelFits, placeFits, channelSound, inOrder, rowStands}
+use Rattle.store.specs.Sound.{rowDelayOf, rowFollows, rowReservedOf, rowHolds, rowSound, rowsSound, rowIs, listed}
+use Rattle.store.specs.Sound.{allListed, soundOf}
 use Rattle.store.specs.Ranged.{Ranged, Fit}
 use Rattle.folds.proofs.Folds.{or-true, every-at, every-true, some-at, some-true}
 
@@ -157,10 +160,10 @@ module _ (w : Store) (f : Fit w) where
   pub fit-link : (l : ℕ) → l < linksOf w → LinkIs w l
   fit-link l h = link-is w l (every-at (linkFits w) (linksOf w) (f .links) l h)
 
-  pub fit-channel : (c : ℕ) → c < channelsOf w → ChannelIs w c
+  pub fit-channel : (c : ℕ) → IsChannel w c → ChannelIs w c
   fit-channel c h = channel-is w c (every-at (channelSound w) (channelsOf w) (f .channels) c h)
 
-  pub fit-ranged : (c : ℕ) → c < channelsOf w → Ranged w c
+  pub fit-ranged : (c : ℕ) → IsChannel w c → Ranged w c
   fit-ranged c h =
       let k = fit-channel c h in
       let n = fit-counts in
@@ -181,12 +184,12 @@ module _ (w : Store) (f : Fit w) where
   pub fit-rows : (l : ℕ) → l < linksOf w → rowsOf w l ≤ mostRows
   fit-rows l h = fit-link l h .rows-most
 
-  pub fit-flows : (c : ℕ) → c < channelsOf w → (j : ℕ) → j < hopsOf w c → sentOf w c j ≤ enteredOf w c j
+  pub fit-flows : (c : ℕ) → IsChannel w c → (j : ℕ) → j < hopsOf w c → sentOf w c j ≤ enteredOf w c j
   fit-flows c h = fit-channel c h .flows
 
 -- "each link's rows are .. the channels routed over it": row k is a place of a route, and this link is there
 pub record RowIs (w : Store) (l k : ℕ) : Type 0 where
-  pub channel : rowChannelOf w l k < channelsOf w
+  pub channel : IsChannel w (rowChannelOf w l k)
   pub place : rowPlaceOf w l k < hopsOf w (rowChannelOf w l k)
   pub here : routeOf w (rowChannelOf w l k) (rowPlaceOf w l k) ≡ l
 
@@ -287,9 +290,9 @@ pub record Sound (w : Store) : Type 0 where
   pub long : Long w
   pub counts : Counts w
   pub link : (l : ℕ) → l < linksOf w → LinkIs w l
-  pub channel : (c : ℕ) → c < channelsOf w → ChannelIs w c
+  pub channel : (c : ℕ) → IsChannel w c → ChannelIs w c
   pub rows : (l : ℕ) → l < linksOf w → RowsAre w l
-  pub row : (c j : ℕ) → c < channelsOf w → j < hopsOf w c → RowFor w c j (routeOf w c j)
+  pub row : (c j : ℕ) → IsChannel w c → j < hopsOf w c → RowFor w c j (routeOf w c j)
 
 module _ (w : Store) where
   pub sound-is : soundOf w ≡ true → Sound w
@@ -331,7 +334,7 @@ module _ (w : Store) where
       record { long = leb-true storeLength (length w) (a .0); counts = b .0; links = c .0; channels = d .0 }
 
 -- no place of a sound store holds more than is reserved there
-pub held-most : {w : Store} → Sound w → (c j : ℕ) → c < channelsOf w → j < hopsOf w c → heldOf w c j ≤ reservedOf w c j
+pub held-most : {w : Store} → Sound w → (c j : ℕ) → IsChannel w c → j < hopsOf w c → heldOf w c j ≤ reservedOf w c j
 held-most {w} s c j h i =
     let r = s .row c j h i in
     rw (r .channel, r .place) at (s .rows (routeOf w c j) (s .channel c h .route .known j i) .holds (r .at) (r .inside))
