@@ -17,44 +17,44 @@ use Rattle.offer_keeps.specs.Room.{hasRoom}
 use Rattle.offer_keeps.proofs.Sound.{offered-sound}
 
 -- What the checks before the last one say.
-pub record Passed (w : Store) (c packets : ℕ) : Type 0 where
+pub record Passed (w : Store) (x packets : ℕ) : Type 0 where
   pub sound : soundOf w ≡ true
   pub running : clockOf w < endSlot
-  pub known : IsChannel w c
+  pub known : IsChannel w x
   pub least : 1 ≤ packets
-  pub most : packets ≤ cOf w c
-  pub burst : inBurst w c ≡ true
+  pub most : packets ≤ cOf w x
+  pub burst : inBurst w x ≡ true
 
-module _ (w : Store) (c packets : ℕ) where
-  pub passed-is : AllHold (take 5 (offerChecks w c packets)) → Passed w c packets
+module _ (w : Store) (x packets : ℕ) where
+  pub passed-is : AllHold (take 5 (offerChecks w x packets)) → Passed w x packets
   passed-is h =
-      let size = within-true 1 (cOf w c) packets (h .1 .1 .1 .0) in
+      let size = within-true 1 (cOf w x) packets (h .1 .1 .1 .0) in
       record {
         sound = h .0;
         running = ltb-true (clockOf w) endSlot (h .1 .0);
-        known = ltb-true c (channelsOf w) (h .1 .1 .0);
+        known = ltb-true x (channelsOf w) (h .1 .1 .0);
         least = size .0;
         most = size .1;
         burst = h .1 .1 .1 .1 .0;
       }
 
   -- the last check, as the code looks at it
-  pub room-decides : Passed w c packets → soundOf (offered w c packets) ≡ hasRoom w c packets
-  room-decides p = offered-sound w c packets (p .sound) (p .running) (p .known) (p .least) (p .most) (p .burst)
+  pub room-decides : Passed w x packets → soundOf (offered w x packets) ≡ hasRoom w x packets
+  room-decides p = offered-sound w x packets (p .sound) (p .running) (p .known) (p .least) (p .most) (p .burst)
 
-  pub answer-refused : {x : Check} {rest : List Check} (k : ℕ) → drop k (offerChecks w c packets) ≡ x ∷ rest
-      → AllHold (take k (offerChecks w c packets)) → x .holds ≡ false → Refused (x .number) (x .place) ≡ offerAnswer w c packets
+  pub answer-refused : {y : Check} {rest : List Check} (k : ℕ) → drop k (offerChecks w x packets) ≡ y ∷ rest
+      → AllHold (take k (offerChecks w x packets)) → y .holds ≡ false → Refused (y .number) (y .place) ≡ offerAnswer w x packets
   unfolding offerAnswer
-  answer-refused k e h f = fails-after Refused (offerChecks w c packets) k _ e h f
+  answer-refused k e h f = fails-after Refused (offerChecks w x packets) k _ e h f
 
-  pub answer-accepted : AllHold (offerChecks w c packets) → offerAnswer w c packets ≡ Accepted (messagesOf w c) (offerTime w c)
+  pub answer-accepted : AllHold (offerChecks w x packets) → offerAnswer w x packets ≡ Accepted (messagesOf w x) (offerTime w x)
   unfolding offerAnswer
-  answer-accepted h = all-passed Refused (offerChecks w c packets) _ h
+  answer-accepted h = all-passed Refused (offerChecks w x packets) _ h
 
-  pub store-refused : {number place : ℕ} → offerAnswer w c packets ≡ Refused number place → offerStore w c packets ≡ w
+  pub store-refused : {number place : ℕ} → offerAnswer w x packets ≡ Refused number place → offerStore w x packets ≡ w
   unfolding offerStore
   store-refused e = rw (e, offerStore)
 
-  pub store-accepted : {n time : ℕ} → offerAnswer w c packets ≡ Accepted n time → offerStore w c packets ≡ offered w c packets
+  pub store-accepted : {n time : ℕ} → offerAnswer w x packets ≡ Accepted n time → offerStore w x packets ≡ offered w x packets
   unfolding offerStore
   store-accepted e = rw (e, offerStore)

@@ -13,69 +13,69 @@ use Rattle.store_same.proofs.Same.{SameRecord}
 use Rattle.store_same.proofs.Settled.{Settled}
 use Rattle.offer_rules.specs.Offer.{offerTime, offered}
 
-module _ (w : Store) (c packets : ℕ) where
+module _ (w : Store) (x packets : ℕ) where
   -- the new message's number, counted from 1
   abbrev new : ℕ
-  new = messagesOf w c + 1
+  new = messagesOf w x + 1
 
   -- the store on its way
   abbrev timed : Store
-  timed = withTime w c new (offerTime w c)
+  timed = withTime w x new (offerTime w x)
 
   abbrev ended : Store
-  ended = withEnd timed c new (acceptedOf w c + packets)
+  ended = withEnd timed x new (acceptedOf w x + packets)
 
-  pub offered-length : length (offered w c packets) ≡ length w
+  pub offered-length : length (offered w x packets) ≡ length w
   unfolding offered
   offered-length =
-      as-long ended (messagesAt c) new
-      ∙ (as-long timed (endAt c new) (acceptedOf w c + packets) ∙ as-long w (timeAt c new) (offerTime w c))
+      as-long ended (messagesAt x) new
+      ∙ (as-long timed (endAt x new) (acceptedOf w x + packets) ∙ as-long w (timeAt x new) (offerTime w x))
 
-  pub offered-frame : (at : ℕ) → (at ≡ messagesAt c → ⊥) → (at ≡ timeAt c new → ⊥) → (at ≡ endAt c new → ⊥)
-      → numberAt (offered w c packets) at ≡ numberAt w at
+  pub offered-frame : (at : ℕ) → (at ≡ messagesAt x → ⊥) → (at ≡ timeAt x new → ⊥) → (at ≡ endAt x new → ⊥)
+      → numberAt (offered w x packets) at ≡ numberAt w at
   unfolding offered
   offered-frame at a b d =
-      beside ended (messagesAt c) new at a
-      ∙ (beside timed (endAt c new) (acceptedOf w c + packets) at d ∙ beside w (timeAt c new) (offerTime w c) at b)
+      beside ended (messagesAt x) new at a
+      ∙ (beside timed (endAt x new) (acceptedOf w x + packets) at d ∙ beside w (timeAt x new) (offerTime w x) at b)
 
-  pub offered-clock : clockOf (offered w c packets) ≡ clockOf w
+  pub offered-clock : clockOf (offered w x packets) ≡ clockOf w
   offered-clock = offered-frame clockAt (λ e. omega arith) (λ e. omega arith) (λ e. omega arith)
 
   -- another channel's whole record
-  pub offered-other : (x : ℕ) → (x ≡ c → ⊥) → SameRecord w (offered w c packets) x
-  offered-other x other = record {
+  pub offered-other : (y : ℕ) → (y ≡ x → ⊥) → SameRecord w (offered w x packets) y
+  offered-other y other = record {
     number = λ at l m.
         offered-frame at (λ e. other (omega arith)) (λ e. other (omega arith)) (λ e. other (omega arith));
   }
 
   -- all that set-up and opens have settled: the network, every link's rows, the channels' numbers, routes and delays
-  module _ (h : c < mostChannels) where
-    pub offered-settled : Settled w (offered w c packets)
+  module _ (h : x < mostChannels) where
+    pub offered-settled : Settled w (offered w x packets)
     offered-settled = record {
       as-long = offered-length;
       frame = λ at clock messages course.
-          offered-frame at (messages c h)
-          (λ e. course c h (omega arith) (omega arith))
-          (λ e. course c h (omega arith) (omega arith));
+          offered-frame at (messages x h)
+          (λ e. course x h (omega arith) (omega arith))
+          (λ e. course x h (omega arith) (omega arith));
     }
 
     -- what is written is read
     module _ (long : Long w) where
-      pub offered-messages : messagesOf (offered w c packets) c ≡ new
+      pub offered-messages : messagesOf (offered w x packets) x ≡ new
       unfolding offered
       offered-messages =
-          written ended (messagesAt c) new
-          (omega (arith, as-long timed (endAt c new) (acceptedOf w c + packets), as-long w (timeAt c new) (offerTime w c)))
+          written ended (messagesAt x) new
+          (omega (arith, as-long timed (endAt x new) (acceptedOf w x + packets), as-long w (timeAt x new) (offerTime w x)))
 
-      pub offered-end : endOf (offered w c packets) c new ≡ acceptedOf w c + packets
+      pub offered-end : endOf (offered w x packets) x new ≡ acceptedOf w x + packets
       unfolding offered
       offered-end =
-          beside ended (messagesAt c) new (endAt c new) (λ e. omega arith)
-          ∙ written timed (endAt c new) (acceptedOf w c + packets) (omega (arith, as-long w (timeAt c new) (offerTime w c)))
+          beside ended (messagesAt x) new (endAt x new) (λ e. omega arith)
+          ∙ written timed (endAt x new) (acceptedOf w x + packets) (omega (arith, as-long w (timeAt x new) (offerTime w x)))
 
-      pub offered-time : timeOf (offered w c packets) c new ≡ offerTime w c
+      pub offered-time : timeOf (offered w x packets) x new ≡ offerTime w x
       unfolding offered
       offered-time =
-          beside ended (messagesAt c) new (timeAt c new) (λ e. omega arith)
-          ∙ (beside timed (endAt c new) (acceptedOf w c + packets) (timeAt c new) (λ e. omega arith)
-          ∙ written w (timeAt c new) (offerTime w c) (omega arith))
+          beside ended (messagesAt x) new (timeAt x new) (λ e. omega arith)
+          ∙ (beside timed (endAt x new) (acceptedOf w x + packets) (timeAt x new) (λ e. omega arith)
+          ∙ written w (timeAt x new) (offerTime w x) (omega arith))

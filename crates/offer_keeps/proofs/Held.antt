@@ -11,18 +11,18 @@ use Rattle.offer_rules.specs.Offer.{offered}
 use Rattle.offer_keeps.proofs.Frame.{offered-messages, offered-end}
 use Rattle.offer_keeps.proofs.Order.{sent-kept}
 
-module _ (w : Store) (c packets : ℕ) (h : c < mostChannels) (long : Long w) (k : ChannelIs w c) where
-  pub accepted-new : acceptedOf (offered w c packets) c ≡ acceptedOf w c + packets
-  accepted-new = rw (offered-messages w c packets h long) (offered-end w c packets h long)
+module _ (w : Store) (x packets : ℕ) (h : x < mostChannels) (long : Long w) (k : ChannelIs w x) where
+  pub accepted-new : acceptedOf (offered w x packets) x ≡ acceptedOf w x + packets
+  accepted-new = rw (offered-messages w x packets h long) (offered-end w x packets h long)
 
-  pub held-new : heldOf (offered w c packets) c 0 ≡ heldOf w c 0 + packets
+  pub held-new : heldOf (offered w x packets) x 0 ≡ heldOf w x 0 + packets
   unfolding enteredOf
   held-new =
       let f = k .flows 0 (k .hops-least) in
-      rw (accepted-new, sent-kept w c packets 0 (omega arith)) (omega arith)
+      rw (accepted-new, sent-kept w x packets 0 (omega arith)) (omega arith)
 
-  pub held-later : (j : ℕ) → suc j < hopsOf w c → heldOf (offered w c packets) c (suc j) ≡ heldOf w c (suc j)
+  pub held-later : (j : ℕ) → suc j < hopsOf w x → heldOf (offered w x packets) x (suc j) ≡ heldOf w x (suc j)
   unfolding enteredOf
   held-later j i =
       let m : suc j < mostHops = omega (arith, k .hops-most) in
-      rw (sent-kept w c packets j (omega arith), sent-kept w c packets (suc j) m)
+      rw (sent-kept w x packets j (omega arith), sent-kept w x packets (suc j) m)

@@ -18,37 +18,37 @@ use Rattle.offer_keeps.proofs.Frame.{offered-messages}
 use Rattle.offer_keeps.proofs.Order.{sent-kept, end-kept}
 
 -- `order` is what an offer looks at before it is accepted (`hasRoom`)
-module _ (w : Store) (c packets : ℕ) (few : c < mostChannels) (long : Long w) (k : ChannelIs w c)
-    (order : inOrder w c (messagesOf w c) (ring - 2) ≡ true) (j : ℕ) (h : j < hopsOf w c)
-    (held : sentOf w c j < enteredOf w c j) where
+module _ (w : Store) (x packets : ℕ) (few : x < mostChannels) (long : Long w) (k : ChannelIs w x)
+    (order : inOrder w x (messagesOf w x) (ring - 2) ≡ true) (j : ℕ) (h : j < hopsOf w x)
+    (held : sentOf w x j < enteredOf w x j) where
   abbrev later : Store
-  later = offered w c packets
+  later = offered w x packets
 
   abbrev n : ℕ
-  n = messagesOf w c
+  n = messagesOf w x
 
-  abbrev x : ℕ
-  x = sentOf w c j
+  abbrev i : ℕ
+  i = sentOf w x j
 
-  accepted : x < acceptedOf w c
+  accepted : i < acceptedOf w x
   accepted = omega (arith, entered-most k j h)
 
-  sent : sentOf later c j ≡ x
-  sent = sent-kept w c packets j (omega (arith, k .hops-most))
+  sent : sentOf later x j ≡ i
+  sent = sent-kept w x packets j (omega (arith, k .hops-most))
 
   -- among one message fewer
-  fewer : messageWith w c x n (ring - 2) ≡ messageOf w c j
-  fewer = sym (message-kept w c x n (ring - 2) (sent-least k j h) order accepted)
+  fewer : messageWith w x i n (ring - 2) ≡ messageOf w x j
+  fewer = sym (message-kept w x i n (ring - 2) (sent-least k j h) order accepted)
 
-  pub message-stays : messageOf later c j ≡ messageOf w c j
+  pub message-stays : messageOf later x j ≡ messageOf w x j
   message-stays =
-      let last : x < endOf later c n = rw (end-kept w c packets n (omega arith) (omega arith)) accepted in
-      rw (sent, offered-messages w c packets few long, add-one n)
-      (message-before later c x n (ring - 2) last
-      ∙ (message-same w later c x n (ring - 2) (λ m a b. end-kept w c packets m (omega arith) (omega arith)) ∙ fewer))
+      let last : i < endOf later x n = rw (end-kept w x packets n (omega arith) (omega arith)) accepted in
+      rw (sent, offered-messages w x packets few long, add-one n)
+      (message-before later x i n (ring - 2) last
+      ∙ (message-same w later x i n (ring - 2) (λ m a b. end-kept w x packets m (omega arith) (omega arith)) ∙ fewer))
 
-  pub packet-stays : packetOf later c j ≡ packetOf w c j
+  pub packet-stays : packetOf later x j ≡ packetOf w x j
   packet-stays =
-      let m : MessageIs w c x n (ring - 2) mostNumber (messageOf w c j) =
-      rw fewer at (message-found w c x (sent-least k j h) n (ring - 2) mostNumber order accepted (k .time-most)) in
-      rw (message-stays, sent, end-kept w c packets (messageOf w c j - 1) (omega arith) (omega arith))
+      let m : MessageIs w x i n (ring - 2) mostNumber (messageOf w x j) =
+      rw fewer at (message-found w x i (sent-least k j h) n (ring - 2) mostNumber order accepted (k .time-most)) in
+      rw (message-stays, sent, end-kept w x packets (messageOf w x j - 1) (omega arith) (omega arith))

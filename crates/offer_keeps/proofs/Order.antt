@@ -18,38 +18,38 @@ use Rattle.offer_rules.specs.Offer.{timeAfter, offered}
 use Rattle.slot_rules.proofs.Laws.Head.{sent-least, entered-most}
 use Rattle.offer_keeps.proofs.Frame.{offered-frame, offered-settled, offered-time, offered-end}
 
-module _ (w : Store) (c packets : ℕ) where
-  pub sent-kept : (j : ℕ) → j < mostHops → sentOf (offered w c packets) c j ≡ sentOf w c j
-  sent-kept j h = offered-frame w c packets (sentAt c j) (λ e. omega arith) (λ e. omega arith) (λ e. omega arith)
+module _ (w : Store) (x packets : ℕ) where
+  pub sent-kept : (j : ℕ) → j < mostHops → sentOf (offered w x packets) x j ≡ sentOf w x j
+  sent-kept j h = offered-frame w x packets (sentAt x j) (λ e. omega arith) (λ e. omega arith) (λ e. omega arith)
 
   -- the last 23 messages
-  module _ (m : ℕ) (last : m ≤ messagesOf w c) (live : messagesOf w c < m + (ring - 1)) where
-    pub time-kept : timeOf (offered w c packets) c m ≡ timeOf w c m
-    time-kept = offered-frame w c packets (timeAt c m) (λ e. omega arith) (λ e. omega arith) (λ e. omega arith)
+  module _ (m : ℕ) (last : m ≤ messagesOf w x) (live : messagesOf w x < m + (ring - 1)) where
+    pub time-kept : timeOf (offered w x packets) x m ≡ timeOf w x m
+    time-kept = offered-frame w x packets (timeAt x m) (λ e. omega arith) (λ e. omega arith) (λ e. omega arith)
 
-    pub end-kept : endOf (offered w c packets) c m ≡ endOf w c m
-    end-kept = offered-frame w c packets (endAt c m) (λ e. omega arith) (λ e. omega arith) (λ e. omega arith)
+    pub end-kept : endOf (offered w x packets) x m ≡ endOf w x m
+    end-kept = offered-frame w x packets (endAt x m) (λ e. omega arith) (λ e. omega arith) (λ e. omega arith)
 
-  module _ (h : c < mostChannels) (hops-most : hopsOf w c ≤ mostHops) where
-    pub delivered-kept : deliveredOf (offered w c packets) c ≡ deliveredOf w c
-    delivered-kept = rw (hops-kept (offered-settled w c packets h) c h) (sent-kept (hopsOf w c - 1) (omega arith))
+  module _ (h : x < mostChannels) (hops-most : hopsOf w x ≤ mostHops) where
+    pub delivered-kept : deliveredOf (offered w x packets) x ≡ deliveredOf w x
+    delivered-kept = rw (hops-kept (offered-settled w x packets h) x h) (sent-kept (hopsOf w x - 1) (omega arith))
 
-    past-kept : (m : ℕ) → m ≤ messagesOf w c → messagesOf w c < m + (ring - 1)
-        → delivered (offered w c packets) c m ≡ delivered w c m
+    past-kept : (m : ℕ) → m ≤ messagesOf w x → messagesOf w x < m + (ring - 1)
+        → delivered (offered w x packets) x m ≡ delivered w x m
     past-kept m l n = rw (end-kept m l n, delivered-kept)
 
-    follows-kept : (m : ℕ) → m < messagesOf w c → messagesOf w c < m + (ring - 1)
-        → follows (offered w c packets) c m ≡ follows w c m
+    follows-kept : (m : ℕ) → m < messagesOf w x → messagesOf w x < m + (ring - 1)
+        → follows (offered w x packets) x m ≡ follows w x m
     follows-kept m l n =
-        let s = offered-settled w c packets h in
-        let l₁ : m ≤ messagesOf w c = omega arith in
-        let l₂ : m + 1 ≤ messagesOf w c = omega arith in
-        let n₂ : messagesOf w c < m + 1 + (ring - 1) = omega arith in
-        rw (past-kept m l₁ n, end-kept m l₁ n, end-kept (m + 1) l₂ n₂, time-kept m l₁ n, time-kept (m + 1) l₂ n₂, c-kept s c h)
-        (rw (p-kept s c h))
+        let s = offered-settled w x packets h in
+        let l₁ : m ≤ messagesOf w x = omega arith in
+        let l₂ : m + 1 ≤ messagesOf w x = omega arith in
+        let n₂ : messagesOf w x < m + 1 + (ring - 1) = omega arith in
+        rw (past-kept m l₁ n, end-kept m l₁ n, end-kept (m + 1) l₂ n₂, time-kept m l₁ n, time-kept (m + 1) l₂ n₂, c-kept s x h)
+        (rw (p-kept s x h))
 
-    order-kept : (m kept : ℕ) → m ≤ messagesOf w c → messagesOf w c + kept ≤ m + (ring - 2)
-        → inOrder (offered w c packets) c m kept ≡ inOrder w c m kept
+    order-kept : (m kept : ℕ) → m ≤ messagesOf w x → messagesOf w x + kept ≤ m + (ring - 2)
+        → inOrder (offered w x packets) x m kept ≡ inOrder w x m kept
     unfolding inOrder
     order-kept m zero l n = past-kept m l (omega arith)
     order-kept zero (suc kept) l n = past-kept zero l (omega arith)
@@ -58,47 +58,47 @@ module _ (w : Store) (c packets : ℕ) where
         (rw (order-kept m kept (omega arith) (omega arith)))
 
 -- the last message is delivered, or the new one is p after it
-spaced : (w : Store) (c n kept : ℕ) → inOrder w c n (suc kept) ≡ true
-    → (delivered w c n || leb (timeOf w c n + pOf w c) (timeAfter w c n)) ≡ true
+spaced : (w : Store) (x n kept : ℕ) → inOrder w x n (suc kept) ≡ true
+    → (delivered w x n || leb (timeOf w x n + pOf w x) (timeAfter w x n)) ≡ true
 unfolding inOrder
-spaced w c zero kept o = rw o
-spaced w c (suc n) kept o =
-    or-true (delivered w c (suc n)) _ (le-leb (timeOf w c (suc n) + pOf w c) (timeAfter w c (suc n)) (omega arith))
+spaced w x zero kept o = rw o
+spaced w x (suc n) kept o =
+    or-true (delivered w x (suc n)) _ (le-leb (timeOf w x (suc n) + pOf w x) (timeAfter w x (suc n)) (omega arith))
 
 -- one step back from a message that is not delivered and follows the one before it
-step-back : (w : Store) (c n kept : ℕ) → delivered w c (n + 1) ≡ false → follows w c n ≡ true
-    → inOrder w c (n + 1) (suc kept) ≡ inOrder w c n kept
+step-back : (w : Store) (x n kept : ℕ) → delivered w x (n + 1) ≡ false → follows w x n ≡ true
+    → inOrder w x (n + 1) (suc kept) ≡ inOrder w x n kept
 unfolding inOrder
-step-back w c n kept d f = let e : delivered w c (suc n) ≡ false = rw (add-one n) at d in rw (add-one n, inOrder, e, f)
+step-back w x n kept d f = let e : delivered w x (suc n) ≡ false = rw (add-one n) at d in rw (add-one n, inOrder, e, f)
 
-module _ (w : Store) (c packets : ℕ) (h : c < mostChannels) (long : Long w) (k : ChannelIs w c)
-    (least : 1 ≤ packets) (most : packets ≤ cOf w c) where
+module _ (w : Store) (x packets : ℕ) (h : x < mostChannels) (long : Long w) (k : ChannelIs w x)
+    (least : 1 ≤ packets) (most : packets ≤ cOf w x) where
   abbrev later : Store
-  later = offered w c packets
+  later = offered w x packets
 
   abbrev n : ℕ
-  n = messagesOf w c
+  n = messagesOf w x
 
-  delivered-most : deliveredOf w c ≤ acceptedOf w c
+  delivered-most : deliveredOf w x ≤ acceptedOf w x
   delivered-most = omega (arith, sent-least k 0 (k .hops-least), k .flows 0 (k .hops-least), entered-most k 0 (k .hops-least))
 
   -- the new message is not delivered
-  new-held : delivered later c (n + 1) ≡ false
+  new-held : delivered later x (n + 1) ≡ false
   new-held =
-      rw (offered-end w c packets h long, delivered-kept w c packets h (k .hops-most))
-      (lt-leb (acceptedOf w c + packets) (deliveredOf w c) (omega (arith, delivered-most)))
+      rw (offered-end w x packets h long, delivered-kept w x packets h (k .hops-most))
+      (lt-leb (acceptedOf w x + packets) (deliveredOf w x) (omega (arith, delivered-most)))
 
-  new-follows : follows later c n ≡ true
+  new-follows : follows later x n ≡ true
   new-follows =
-      let s = offered-settled w c packets h in
-      let one : acceptedOf w c < acceptedOf w c + packets = omega arith in
-      let all : acceptedOf w c + packets ≤ acceptedOf w c + cOf w c = omega arith in
-      rw (offered-end w c packets h long, end-kept w c packets n (omega arith) (omega arith))
-      (rw (offered-time w c packets h long, time-kept w c packets n (omega arith) (omega arith))
-      (rw (delivered-kept w c packets h (k .hops-most), c-kept s c h, p-kept s c h)
-      (rw (lt-ltb _ _ one, le-leb _ _ all) (spaced w c n (ring - 2) (k .order)))))
+      let s = offered-settled w x packets h in
+      let one : acceptedOf w x < acceptedOf w x + packets = omega arith in
+      let all : acceptedOf w x + packets ≤ acceptedOf w x + cOf w x = omega arith in
+      rw (offered-end w x packets h long, end-kept w x packets n (omega arith) (omega arith))
+      (rw (offered-time w x packets h long, time-kept w x packets n (omega arith) (omega arith))
+      (rw (delivered-kept w x packets h (k .hops-most), c-kept s x h, p-kept s x h)
+      (rw (lt-ltb _ _ one, le-leb _ _ all) (spaced w x n (ring - 2) (k .order)))))
 
-  pub order-new : inOrder later c (n + 1) (ring - 1) ≡ inOrder w c n (ring - 2)
+  pub order-new : inOrder later x (n + 1) (ring - 1) ≡ inOrder w x n (ring - 2)
   order-new =
-      step-back later c n (ring - 2) new-held new-follows
-      ∙ order-kept w c packets h (k .hops-most) n (ring - 2) (omega arith) (omega arith)
+      step-back later x n (ring - 2) new-held new-follows
+      ∙ order-kept w x packets h (k .hops-most) n (ring - 2) (omega arith) (omega arith)

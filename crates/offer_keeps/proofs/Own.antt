@@ -9,32 +9,32 @@ use Rattle.offer_rules.specs.Offer.{timeAfter, offerTime, inBurst, offered}
 use Rattle.offer_keeps.proofs.Frame.{offered-clock, offered-other}
 
 -- the numbers that the rule reads
-pub record SameOwn (w w′ : Store) (c : ℕ) : Type 0 where
+pub record SameOwn (w w′ : Store) (x : ℕ) : Type 0 where
   pub clock : clockOf w′ ≡ clockOf w
-  pub p : pOf w′ c ≡ pOf w c
-  pub b : bOf w′ c ≡ bOf w c
-  pub messages : messagesOf w′ c ≡ messagesOf w c
-  pub time : timeOf w′ c (messagesOf w c) ≡ timeOf w c (messagesOf w c)
+  pub p : pOf w′ x ≡ pOf w x
+  pub b : bOf w′ x ≡ bOf w x
+  pub messages : messagesOf w′ x ≡ messagesOf w x
+  pub time : timeOf w′ x (messagesOf w x) ≡ timeOf w x (messagesOf w x)
 
-after-same : (w w′ : Store) (c n : ℕ) → clockOf w′ ≡ clockOf w → pOf w′ c ≡ pOf w c → timeOf w′ c n ≡ timeOf w c n
-    → timeAfter w′ c n ≡ timeAfter w c n
-after-same w w′ c zero e f g = e
-after-same w w′ c (suc n) e f g = rw (e, f, g)
+after-same : (w w′ : Store) (x n : ℕ) → clockOf w′ ≡ clockOf w → pOf w′ x ≡ pOf w x → timeOf w′ x n ≡ timeOf w x n
+    → timeAfter w′ x n ≡ timeAfter w x n
+after-same w w′ x zero e f g = e
+after-same w w′ x (suc n) e f g = rw (e, f, g)
 
-module _ {w w′ : Store} {c : ℕ} (s : SameOwn w w′ c) where
-  pub offer-time-same : offerTime w′ c ≡ offerTime w c
-  offer-time-same = rw (s .messages) (after-same w w′ c (messagesOf w c) (s .clock) (s .p) (s .time))
+module _ {w w′ : Store} {x : ℕ} (s : SameOwn w w′ x) where
+  pub offer-time-same : offerTime w′ x ≡ offerTime w x
+  offer-time-same = rw (s .messages) (after-same w w′ x (messagesOf w x) (s .clock) (s .p) (s .time))
 
-  pub in-burst-same : inBurst w′ c ≡ inBurst w c
+  pub in-burst-same : inBurst w′ x ≡ inBurst w x
   in-burst-same = rw (offer-time-same, s .clock, s .b, s .p)
 
-pub other-offer : (w : Store) (c packets x : ℕ) → (x ≡ c → ⊥) → SameOwn w (offered w c packets) x
-other-offer w c packets x e =
-    let same = offered-other w c packets x e in
+pub other-offer : (w : Store) (x packets y : ℕ) → (y ≡ x → ⊥) → SameOwn w (offered w x packets) y
+other-offer w x packets y e =
+    let same = offered-other w x packets y e in
     record {
-      clock = offered-clock w c packets;
+      clock = offered-clock w x packets;
       p = p-same same;
       b = b-same same;
       messages = messages-same same;
-      time = time-same same (messagesOf w x);
+      time = time-same same (messagesOf w y);
     }

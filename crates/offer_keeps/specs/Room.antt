@@ -10,7 +10,7 @@ use Rattle.store.specs.Sound.{inOrder}
 
 -- One message more may be counted, and kept: at most 22 are undelivered before it. And its packets are held within what is
 -- reserved.
-abbrev pub hasRoom : Store → (c packets : ℕ) → Bool
-hasRoom w c packets =
-    isNumber (messagesOf w c + 1)
-    && (inOrder w c (messagesOf w c) (ring - 2) && leb (heldOf w c 0 + packets) (reservedOf w c 0))
+abbrev pub hasRoom : Store → (x packets : ℕ) → Bool
+hasRoom w x packets =
+    isNumber (messagesOf w x + 1)
+    && (inOrder w x (messagesOf w x) (ring - 2) && leb (heldOf w x 0 + packets) (reservedOf w x 0))

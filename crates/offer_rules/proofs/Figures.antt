@@ -10,8 +10,8 @@ use Rattle.offer_rules.specs.declared.Offered.the-variants.{Accepted, Re
 use Rattle.offer_rules.specs.Offer.{offerTime, offered, offerChecks}
 
 -- what 14, 11, 12 and 13 say of an offer
-outcome : Store → (c packets : ℕ) → Offered
-outcome w c packets = firstFailed Refused (take 4 (drop 1 (offerChecks w c packets))) (Accepted (messagesOf w c) (offerTime w c))
+outcome : Store → (x packets : ℕ) → Offered
+outcome w x packets = firstFailed Refused (take 4 (drop 1 (offerChecks w x packets))) (Accepted (messagesOf w x) (offerTime w x))
 
 -- the listing's channels 0 and 1, and channel 0 after its first and its second message
 opened : Store

@@ -37,5 +37,5 @@ module _ {w w′ : Store} {q : Request} {d : ℕ → ℕ} (o : Opened w w′ q d
         (rows-same away-entry (old-rows (was-sound o) (open-keeps o) r))
         (rw (same, taken, network-kept o .buffer l few) (was-sound o .rows l h .fits))
 
-    pub away-row : {c j : ℕ} → RowFor w c j l → RowFor w′ c j l
+    pub away-row : {x j : ℕ} → RowFor w x j l → RowFor w′ x j l
     away-row r = row-again r (r .at) (rw away-count (r .inside)) (away-entry (r .at) (r .inside))

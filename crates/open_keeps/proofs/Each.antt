@@ -17,7 +17,7 @@ module _ {w w′ : Store} {q : Request} {d : ℕ → ℕ} (o : Opened w w′ q d
       (away l (rw (links-kept o) at h))
       (place-of (link q) (hops q) l)
 
-  pub each-channel : (P : ℕ → Type 0) → ((c : ℕ) → IsChannel w c → P c) → P (channelsOf w)
-      → (c : ℕ) → IsChannel w′ c → P c
-  each-channel P old new c h =
-      below c (channelsOf w) (omega (arith, o .after .channels)) (old c) (λ e. rw e new)
+  pub each-channel : (P : ℕ → Type 0) → ((x : ℕ) → IsChannel w x → P x) → P (channelsOf w)
+      → (x : ℕ) → IsChannel w′ x → P x
+  each-channel P old new x h =
+      below x (channelsOf w) (omega (arith, o .after .channels)) (old x) (λ e. rw e new)

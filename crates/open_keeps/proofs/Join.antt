@@ -21,10 +21,10 @@ use Rattle.open_keeps.proofs.Rows.{rows-here, here-rows, rows-joined, r
 use Rattle.open_keeps.proofs.Old.{old-delay, old-rows, old-taken}
 
 -- no later, and a larger number
-before-larger : (d c d′ c′ : ℕ) → d ≤ d′ → c < c′ → Before d c d′ c′
-before-larger d c d′ c′ h l = go (decLt d d′)
+before-larger : (d x d′ x′ : ℕ) → d ≤ d′ → x < x′ → Before d x d′ x′
+before-larger d x d′ x′ h l = go (decLt d d′)
   where
-    go : Dec (d < d′) → Before d c d′ c′
+    go : Dec (d < d′) → Before d x d′ x′
     go (yes m) = inl m
     go (no m) = inr (omega (arith, m), l)
 
@@ -101,7 +101,7 @@ module _ {w w′ : Store} {q : Request} {d : ℕ → ℕ} (o : Opened w w′ q d
         (old-rows (was-sound o) (open-keeps o) old))
         (rw (taken, network-kept o .buffer l (route-few o j h)) fits)
 
-    pub join-old : {c i : ℕ} → RowFor w c i l → RowFor w′ c i l
+    pub join-old : {x i : ℕ} → RowFor w x i l → RowFor w′ x i l
     join-old r =
         let m : _ = inserted-old inserted (r .at) (r .inside) in
         row-again r (m .0) (omega (arith, joined .rows, m .1)) (m .2)

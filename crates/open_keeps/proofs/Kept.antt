@@ -34,22 +34,22 @@ module _ {w w′ : Store} {q : Request} {d : ℕ → ℕ} (o : Opened w w′ q d
   low-kept at other low apart = o .after .frame at other (λ a b. omega arith) apart
 
   pub clock-kept : clockOf w′ ≡ clockOf w
-  clock-kept = low-kept clockAt (λ e. omega arith) (omega arith) (λ j h x y. omega arith)
+  clock-kept = low-kept clockAt (λ e. omega arith) (omega arith) (λ j h u y. omega arith)
 
   pub links-kept : linksOf w′ ≡ linksOf w
-  links-kept = low-kept linksAt (λ e. omega arith) (omega arith) (λ j h x y. omega arith)
+  links-kept = low-kept linksAt (λ e. omega arith) (omega arith) (λ j h u y. omega arith)
 
   pub link-kept : (l at : ℕ) → l < mostLinks → linkAt l ≤ at → at < rowsAt l → numberAt w′ at ≡ numberAt w at
-  link-kept l at h a b = low-kept at (λ e. omega arith) (omega arith) (λ j m x y. omega arith)
+  link-kept l at h a b = low-kept at (λ e. omega arith) (omega arith) (λ j m u y. omega arith)
 
   pub away-kept : (l at : ℕ) → l < mostLinks → Away (link q) (hops q) l → linkAt l ≤ at → at < linkAt l + recordLength
       → numberAt w′ at ≡ numberAt w at
   away-kept l at h away a b =
-      low-kept at (λ e. omega arith) (omega arith) (λ j m x y. let n : link q j ≡ l → ⊥ = away j m in omega arith)
+      low-kept at (λ e. omega arith) (omega arith) (λ j m u y. let n : link q j ≡ l → ⊥ = away j m in omega arith)
 
-  pub record-kept : (c : ℕ) → IsChannel w c → SameRecord w w′ c
-  record-kept c h = record {
-    number = λ at a b. low-kept at (λ e. omega arith) (omega arith) (λ j m x y. omega (arith, route-few j m));
+  pub record-kept : (x : ℕ) → IsChannel w x → SameRecord w w′ x
+  record-kept x h = record {
+    number = λ at a b. low-kept at (λ e. omega arith) (omega arith) (λ j m u y. omega (arith, route-few j m));
   }
 
   pub network-kept : SameNetwork w w′

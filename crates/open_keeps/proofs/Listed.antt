@@ -12,23 +12,23 @@ use Rattle.open_keeps.proofs.Each.{each-link, each-channel}
 
 module _ {w w′ : Store} {q : Request} {d : ℕ → ℕ} (o : Opened w w′ q d) where
   -- a link keeps each row that it has
-  row-kept : (c j : ℕ) → IsChannel w c → j < hopsOf w c → RowFor w′ c j (routeOf w c j)
-  row-kept c j h i =
-      each-link o (λ l. RowFor w c j l → RowFor w′ c j l)
+  row-kept : (x j : ℕ) → IsChannel w x → j < hopsOf w x → RowFor w′ x j (routeOf w x j)
+  row-kept x j h i =
+      each-link o (λ l. RowFor w x j l → RowFor w′ x j l)
       (λ k m. join-old o k m)
       (λ l m a. away-row o l m a)
-      (routeOf w c j)
-      (rw (links-kept o) (was-sound o .channel c h .route .known j i))
-      (was-sound o .row c j h i)
+      (routeOf w x j)
+      (rw (links-kept o) (was-sound o .channel x h .route .known j i))
+      (was-sound o .row x j h i)
 
-  pub all-listed : (c : ℕ) → IsChannel w′ c → (j : ℕ) → j < hopsOf w′ c → RowFor w′ c j (routeOf w′ c j)
-  all-listed = each-channel o (λ c. (j : ℕ) → j < hopsOf w′ c → RowFor w′ c j (routeOf w′ c j)) old new
+  pub all-listed : (x : ℕ) → IsChannel w′ x → (j : ℕ) → j < hopsOf w′ x → RowFor w′ x j (routeOf w′ x j)
+  all-listed = each-channel o (λ x. (j : ℕ) → j < hopsOf w′ x → RowFor w′ x j (routeOf w′ x j)) old new
     where
-      old : (c : ℕ) → IsChannel w c → (j : ℕ) → j < hopsOf w′ c → RowFor w′ c j (routeOf w′ c j)
-      old c h j i =
-          let same = record-kept o c h in
-          let m : j < hopsOf w c = rw (hops-same same) at i in
-          rw (route-same same j (omega (arith, was-sound o .channel c h .hops-most))) (row-kept c j h m)
+      old : (x : ℕ) → IsChannel w x → (j : ℕ) → j < hopsOf w′ x → RowFor w′ x j (routeOf w′ x j)
+      old x h j i =
+          let same = record-kept o x h in
+          let m : j < hopsOf w x = rw (hops-same same) at i in
+          rw (route-same same j (omega (arith, was-sound o .channel x h .hops-most))) (row-kept x j h m)
 
       new : (j : ℕ) → j < hopsOf w′ (channelsOf w) → RowFor w′ (channelsOf w) j (routeOf w′ (channelsOf w) j)
       new j i =

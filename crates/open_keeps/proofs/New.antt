@@ -15,13 +15,13 @@ use Rattle.open_keeps.proofs.Kept.{Opened, links-few, route-few, networ
 use Rattle.store_same.proofs.Same.{good-same}
 
 -- no message and no packet: all are delivered
-none-left : (w : Store) (c : ℕ) → endOf w c 0 ≡ 0 → delivered w c 0 ≡ true
-none-left w c e = le-leb (endOf w c 0) (deliveredOf w c) (omega arith)
+none-left : (w : Store) (x : ℕ) → endOf w x 0 ≡ 0 → delivered w x 0 ≡ true
+none-left w x e = le-leb (endOf w x 0) (deliveredOf w x) (omega arith)
 
-none-in-order : (w : Store) (c kept : ℕ) → endOf w c 0 ≡ 0 → inOrder w c 0 kept ≡ true
+none-in-order : (w : Store) (x kept : ℕ) → endOf w x 0 ≡ 0 → inOrder w x 0 kept ≡ true
 unfolding inOrder
-none-in-order w c zero e = none-left w c e
-none-in-order w c (suc k) e = none-left w c e
+none-in-order w x zero e = none-left w x e
+none-in-order w x (suc k) e = none-left w x e
 
 module _ {w w′ : Store} {q : Request} {d : ℕ → ℕ} (o : Opened w w′ q d) where
   pub new-accepted : acceptedOf w′ (channelsOf w) ≡ 0

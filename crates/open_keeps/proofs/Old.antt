@@ -11,9 +11,9 @@ use Rattle.store_same.proofs.Same.{SameRecord, Keeps, hops-same, route-same, de
 use Rattle.open_keeps.proofs.Rows.{Entry, entryDelay, entryReserved, Here, Holds, Rows}
 
 module _ {w w′ : Store} (sound : Sound w) (keeps : Keeps w w′) where
-  pub old-channel : (c : ℕ) → IsChannel w c → ChannelIs w′ c
-  old-channel c h =
-      channel-same (keeps .channel c h) (keeps .network) (sound .counts .links-most) (sound .channel c h)
+  pub old-channel : (x : ℕ) → IsChannel w x → ChannelIs w′ x
+  old-channel x h =
+      channel-same (keeps .channel x h) (keeps .network) (sound .counts .links-most) (sound .channel x h)
 
   module _ {l : ℕ} {e : Entry} (h : Here w l e) where
     same : SameRecord w w′ (e .0)

@@ -16,7 +16,7 @@ Entry = ℕ × ℕ
 abbrev pub entry : Store → (l k : ℕ) → Entry
 entry w l k = (rowChannelOf w l k, rowPlaceOf w l k)
 
-pub entry-is : {c c′ j j′ : ℕ} → c ≡ c′ → j ≡ j′ → _≡_ {A = Entry} (c, j) (c′, j′)
+pub entry-is : {x x′ j j′ : ℕ} → x ≡ x′ → j ≡ j′ → _≡_ {A = Entry} (x, j) (x′, j′)
 entry-is e f = cc
 
 abbrev pub entryDelay : Store → Entry → ℕ
@@ -78,7 +78,7 @@ module _ {w : Store} {l : ℕ} where
   }
 
 -- a row of w that w′ has too
-pub row-again : {w w′ : Store} {c j l : ℕ} (r : RowFor w c j l) (m : ℕ) → m < rowsOf w′ l → entry w′ l m ≡ entry w l (r .at)
-    → RowFor w′ c j l
+pub row-again : {w w′ : Store} {x j l : ℕ} (r : RowFor w x j l) (m : ℕ) → m < rowsOf w′ l → entry w′ l m ≡ entry w l (r .at)
+    → RowFor w′ x j l
 row-again r m h e =
-    record { at = m; inside = h; channel = ap (λ x. x .0) e ∙ r .channel; place = ap (λ x. x .1) e ∙ r .place }
+    record { at = m; inside = h; channel = ap (λ y. y .0) e ∙ r .channel; place = ap (λ y. y .1) e ∙ r .place }

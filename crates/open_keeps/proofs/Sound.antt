@@ -22,12 +22,12 @@ use Rattle.open_keeps.proofs.Listed.{all-listed}
 module _ {w w′ : Store} {q : Request} {d : ℕ → ℕ} (o : Opened w w′ q d) where
   counts : Counts w′
   counts =
-      let c = was-sound o .counts in
+      let x = was-sound o .counts in
       record {
-        links-least = rw (links-kept o) (c .links-least);
-        links-most = rw (links-kept o) (c .links-most);
+        links-least = rw (links-kept o) (x .links-least);
+        links-most = rw (links-kept o) (x .links-most);
         channels-most = omega (arith, o .early .channels, o .after .channels);
-        clock-most = rw (clock-kept o) (c .clock-most);
+        clock-most = rw (clock-kept o) (x .clock-most);
       }
 
   rows-most : (l : ℕ) → l < linksOf w′ → rowsOf w′ l ≤ mostRows
@@ -59,5 +59,5 @@ open-sound w w′ q d early after least most fits =
       link = links o;
       channel = each-channel o (ChannelIs w′) (old-channel (was-sound o) (open-keeps o)) (new-channel o least most);
       rows = each-link o (RowsAre w′) (λ j h. join-rows o j h (fits j h)) (away-rows o);
-      row = λ c j h. all-listed o c h j;
+      row = λ x j h. all-listed o x h j;
     })

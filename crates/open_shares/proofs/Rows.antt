@@ -31,24 +31,24 @@ module _ (w : Store) (e : soundOf w ≡ true) (l : ℕ) (h : l < linksOf w) wher
   taken-most = le-trans (s .rows l h .fits) (s .link l h .good .buffer-most)
 
 -- Row k as it was read, and what is reserved for it.
-pub record Row (w : Store) (l k c j : ℕ) : Type 0 where
+pub record Row (w : Store) (l k x j : ℕ) : Type 0 where
   pub sound : soundOf w ≡ true
   pub there : l < linksOf w
   pub below : k < rowsOf w l
-  pub its-channel : c ≡ rowChannelOf w l k
+  pub its-channel : x ≡ rowChannelOf w l k
   pub its-place : j ≡ rowPlaceOf w l k
 
-module _ {w : Store} {l k c j : ℕ} (r : Row w l k c j) where
+module _ {w : Store} {l k x j : ℕ} (r : Row w l k x j) where
   stands : RowIs w l k
   stands = sound-is w (r .sound) .rows l (r .there) .rows k (r .below)
 
-  pub row-ranged : Ranged w c
+  pub row-ranged : Ranged w x
   row-ranged = rw (r .its-channel) (fit-ranged w (sound-fit w (r .sound)) (rowChannelOf w l k) (stands .channel))
 
-  pub row-place : j < hopsOf w c
+  pub row-place : j < hopsOf w x
   row-place = rw (r .its-channel, r .its-place) (stands .place)
 
-  module _ {v : ℕ} (e : v ≡ reservedOf w c j) where
+  module _ {v : ℕ} (e : v ≡ reservedOf w x j) where
     pub row-reserved : v ≡ rowReservedOf w l k
     row-reserved = rw (r .its-channel, r .its-place) at e
 

@@ -15,11 +15,11 @@ use Rattle.promise.specs.Promise.{Event, AsOpened}
 use Rattle.promise.specs.Promise.Event.{opened, accepted, sent}
 use Rattle.promise.proofs.Invariant.{IsMessage, EventIs}
 
-module _ {w w′ : Store} {all all′ : Accepted} (same : (c : ℕ) → IsChannel w c → SameNumbers w w′ c)
-    (longer : (c : ℕ) → IsChannel w c → Longer (all c) (all′ c)) where
-  opened-stays : (c : ℕ) (q : Request) (answer : Opening) → AsOpened w c q answer → AsOpened w′ c q answer
-  opened-stays c q answer o =
-      let s = same c (o .number) in
+module _ {w w′ : Store} {all all′ : Accepted} (same : (x : ℕ) → IsChannel w x → SameNumbers w w′ x)
+    (longer : (x : ℕ) → IsChannel w x → Longer (all x) (all′ x)) where
+  opened-stays : (x : ℕ) (q : Request) (answer : Opening) → AsOpened w x q answer → AsOpened w′ x q answer
+  opened-stays x q answer o =
+      let s = same x (o .number) in
       record {
         number = s .there;
         c-is = s .c-is ∙ o .c-is;
@@ -32,11 +32,11 @@ module _ {w w′ : Store} {all all′ : Accepted} (same : (c : ℕ) → IsChanne
         reserved-is = λ j h. s .reserved-is j (rw (o .hops-are) h) ∙ o .reserved-is j h;
       }
 
-  message-stays : (c m l k : ℕ) → IsMessage w all c m l k → IsMessage w′ all′ c m l k
-  message-stays c m l k o =
-      let g = longer c (o .channel) in
+  message-stays : (x m l k : ℕ) → IsMessage w all x m l k → IsMessage w′ all′ x m l k
+  message-stays x m l k o =
+      let g = longer x (o .channel) in
       record {
-        channel = same c (o .channel) .there;
+        channel = same x (o .channel) .there;
         inside = omega (arith, o .inside, g .count);
         time = g .time m (o .inside) ∙ o .time;
         size = rw (g .end (suc m) (o .inside), g .end m (omega (arith, o .inside))) (o .size);
@@ -44,6 +44,6 @@ module _ {w w′ : Store} {all all′ : Accepted} (same : (c : ℕ) → IsChanne
 
   pub events-stay : (h : List Event) → Every (EventIs w all) h → Every (EventIs w′ all′) h
   events-stay [] e = tt
-  events-stay (opened c q answer ∷ h) e = (opened-stays c q answer (e .0), events-stay h (e .1))
-  events-stay (accepted c m l k ∷ h) e = (message-stays c m l k (e .0), events-stay h (e .1))
-  events-stay (sent x ∷ h) e = (tt, events-stay h (e .1))
+  events-stay (opened x q answer ∷ h) e = (opened-stays x q answer (e .0), events-stay h (e .1))
+  events-stay (accepted x m l k ∷ h) e = (message-stays x m l k (e .0), events-stay h (e .1))
+  events-stay (sent y ∷ h) e = (tt, events-stay h (e .1))

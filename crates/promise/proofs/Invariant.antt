@@ -15,21 +15,21 @@ use Rattle.promise.specs.Promise.Event.{opened, accepted, sent}
 use Rattle.promise.proofs.History.{messagesIn}
 
 -- an accepted message is one of its channel's
-pub record IsMessage (w : Store) (all : Accepted) (c message logical packets : ℕ) : Type 0 where
-  pub channel : IsChannel w c
-  pub inside : message < length (all c)
-  pub time : timeAt (all c) message ≡ logical
-  pub size : endAfter (all c) (suc message) ≡ endAfter (all c) message + packets
+pub record IsMessage (w : Store) (all : Accepted) (x message logical packets : ℕ) : Type 0 where
+  pub channel : IsChannel w x
+  pub inside : message < length (all x)
+  pub time : timeAt (all x) message ≡ logical
+  pub size : endAfter (all x) (suc message) ≡ endAfter (all x) message + packets
 
 -- what the store says of an event
 abbrev pub EventIs : (w : Store) (all : Accepted) → Event → Type 0
-EventIs w all (opened c q answer) = AsOpened w c q answer
-EventIs w all (accepted c message logical packets) = IsMessage w all c message logical packets
-EventIs w all (sent x) = Unit {0}
+EventIs w all (opened x q answer) = AsOpened w x q answer
+EventIs w all (accepted x message logical packets) = IsMessage w all x message logical packets
+EventIs w all (sent y) = Unit {0}
 
 -- a packet's message is one of these, and has that logical time
 abbrev pub Timed : List Message → Packet → Type 0
-Timed ms x = (x .message < length ms) × (x .logical ≡ timeAt ms (x .message))
+Timed ms y = (y .message < length ms) × (y .logical ≡ timeAt ms (y .message))
 
 pub record Invariant (w : Store) (h : List Event) : Type 0 where
   -- the store is sound, every link's rows are feasible, and the store tells of the messages that were accepted
@@ -44,11 +44,11 @@ pub record Invariant (w : Store) (h : List Event) : Type 0 where
   -- what was sent on each link is the channel's packets in order, each in time
   pub logged : Logged w (messagesIn h) (sendsIn h)
   -- what has happened, channel by channel and event by event
-  pub names : (c : ℕ) → map nameOf (packetsIn h c) ≡ packetsFrom 0 0 (messagesIn h c)
-  pub logicals : (c : ℕ) → Every (Timed (messagesIn h c)) (packetsIn h c)
+  pub names : (x : ℕ) → map nameOf (packetsIn h x) ≡ packetsFrom 0 0 (messagesIn h x)
+  pub logicals : (x : ℕ) → Every (Timed (messagesIn h x)) (packetsIn h x)
   pub events : Every (EventIs w (messagesIn h)) h
-  pub known : (c : ℕ) → IsChannel w c → WasOpened h c
+  pub known : (x : ℕ) → IsChannel w x → WasOpened h x
 
 -- what has happened has happened
-pub still-opened : (h more : List Event) (c : ℕ) → WasOpened h c → WasOpened (h ++ more) c
-still-opened h more c o = record { request = o .request; answer = o .answer; there = Memᴰ·append-left more (o .there) }
+pub still-opened : (h more : List Event) (x : ℕ) → WasOpened h x → WasOpened (h ++ more) x
+still-opened h more x o = record { request = o .request; answer = o .answer; there = Memᴰ·append-left more (o .there) }

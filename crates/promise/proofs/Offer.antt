@@ -40,110 +40,110 @@ names-of m l (suc k) =
     map-append nameOf (packetsOf m l k) (record { message = m; packet = k; logical = l } ∷ []) ∙ rw (names-of m l k)
 
 logicals-of : (P : Packet → Type 0) (message logical k : ℕ)
-    → ((x : Packet) → x .message ≡ message → x .logical ≡ logical → P x) → Every P (packetsOf message logical k)
+    → ((u : Packet) → u .message ≡ message → u .logical ≡ logical → P u) → Every P (packetsOf message logical k)
 unfolding packetsOf
 logicals-of P m l zero f = tt
 logicals-of P m l (suc k) f =
     every-append P (packetsOf m l k) (record { message = m; packet = k; logical = l } ∷ []) (logicals-of P m l k f)
     (f _ refl refl, tt)
 
-module _ {w : Store} {h : List Event} (i : Invariant w h) (c packets n time : ℕ)
-    (a : offerAnswer w c packets ≡ Accepted n time) where
+module _ {w : Store} {h : List Event} (i : Invariant w h) (x packets n time : ℕ)
+    (a : offerAnswer w x packets ≡ Accepted n time) where
   abbrev one : List Event
-  one = accepted c n time packets ∷ []
+  one = accepted x n time packets ∷ []
 
-  abbrev all : (x : ℕ) → List Message
+  abbrev all : (u : ℕ) → List Message
   all = messagesIn h
 
-  abbrev more : (x : ℕ) → List Message
+  abbrev more : (u : ℕ) → List Message
   more = messagesIn (h ++ one)
 
-  is : AcceptedIs w c packets n time
-  is = accepted-is w c packets n time a
+  is : AcceptedIs w x packets n time
+  is = accepted-is w x packets n time a
 
-  p : Passed w c packets
+  p : Passed w x packets
   p = is .passed
 
   -- message n is the next one
-  number : n ≡ length (all c)
-  number = is .number-is ∙ i .seen .told c (p .known) .count
+  number : n ≡ length (all x)
+  number = is .number-is ∙ i .seen .told x (p .known) .count
 
-  new : more c ≡ all c ++ (message w c packets ∷ [])
-  new = messages-new c h n time packets ∙ rw (is .time-is, ← accepted-count (i .seen .told c (p .known)))
+  new : more x ≡ all x ++ (message w x packets ∷ [])
+  new = messages-new x h n time packets ∙ rw (is .time-is, ← accepted-count (i .seen .told x (p .known)))
 
-  same : (x : ℕ) → (x ≡ c → ⊥) → more x ≡ all x
-  same x e = messages-same x h one ((λ f. e (sym f)), tt)
+  same : (u : ℕ) → (u ≡ x → ⊥) → more u ≡ all u
+  same u e = messages-same u h one ((λ f. e (sym f)), tt)
 
-  adds : Adds w c packets all more
+  adds : Adds w x packets all more
   adds = record { new = new; same = same }
 
-  longer : (x : ℕ) → Longer (all x) (more x)
-  longer x = go (ℕ-discrete x c)
+  longer : (u : ℕ) → Longer (all u) (more u)
+  longer u = go (ℕ-discrete u x)
     where
-      go : Dec (x ≡ c) → Longer (all x) (more x)
-      go (yes e) = rw e (one-longer (all c) (more c) (message w c packets) new)
-      go (no e) = as-long (all x) (more x) (same x e)
+      go : Dec (u ≡ x) → Longer (all u) (more u)
+      go (yes e) = rw e (one-longer (all x) (more x) (message w x packets) new)
+      go (no e) = as-long (all u) (more u) (same u e)
 
   same-sends : sendsIn (h ++ one) ≡ sendsIn h
   unfolding sendsIn
   same-sends = sends-on h one ∙ append-nil (sendsIn h)
 
   -- its packets
-  names : (x : ℕ) → map nameOf (packetsIn (h ++ one) x) ≡ packetsFrom 0 0 (more x)
-  names x = go (ℕ-discrete x c)
+  names : (u : ℕ) → map nameOf (packetsIn (h ++ one) u) ≡ packetsFrom 0 0 (more u)
+  names u = go (ℕ-discrete u x)
     where
-      go : Dec (x ≡ c) → map nameOf (packetsIn (h ++ one) x) ≡ packetsFrom 0 0 (more x)
+      go : Dec (u ≡ x) → map nameOf (packetsIn (h ++ one) u) ≡ packetsFrom 0 0 (more u)
       go (yes e) =
-          let ends : ended 0 (all c) ≡ acceptedOf w c = sym (accepted-count (i .seen .told c (p .known))) in
-          let size : acceptedOf w c + packets - ended 0 (all c) ≡ packets = omega arith in
-          rw (e, packets-new c h n time packets, new)
-          (map-append nameOf (packetsIn h c) (packetsOf n time packets)
-          ∙ (rw (i .names c, names-of n time packets, packets-more (all c) (message w c packets), size, ← number)))
-      go (no e) = rw (packets-same x h one ((λ f. e (sym f)), tt), same x e) (i .names x)
+          let ends : ended 0 (all x) ≡ acceptedOf w x = sym (accepted-count (i .seen .told x (p .known))) in
+          let size : acceptedOf w x + packets - ended 0 (all x) ≡ packets = omega arith in
+          rw (e, packets-new x h n time packets, new)
+          (map-append nameOf (packetsIn h x) (packetsOf n time packets)
+          ∙ (rw (i .names x, names-of n time packets, packets-more (all x) (message w x packets), size, ← number)))
+      go (no e) = rw (packets-same u h one ((λ f. e (sym f)), tt), same u e) (i .names u)
 
-  timed : (x : ℕ) (y : Packet) → Timed (all x) y → Timed (more x) y
-  timed x y t = (omega (arith, t .0, longer x .count), t .1 ∙ sym (longer x .time (y .message) (t .0)))
+  timed : (u : ℕ) (y : Packet) → Timed (all u) y → Timed (more u) y
+  timed u y t = (omega (arith, t .0, longer u .count), t .1 ∙ sym (longer u .time (y .message) (t .0)))
 
-  logicals : (x : ℕ) → Every (Timed (more x)) (packetsIn (h ++ one) x)
-  logicals x = go (ℕ-discrete x c)
+  logicals : (u : ℕ) → Every (Timed (more u)) (packetsIn (h ++ one) u)
+  logicals u = go (ℕ-discrete u x)
     where
-      old : Every (Timed (more x)) (packetsIn h x)
-      old = every-imp (Timed (all x)) (Timed (more x)) (packetsIn h x) (timed x) (i .logicals x)
+      old : Every (Timed (more u)) (packetsIn h u)
+      old = every-imp (Timed (all u)) (Timed (more u)) (packetsIn h u) (timed u) (i .logicals u)
 
-      fresh : (y : Packet) → y .message ≡ n → y .logical ≡ time → Timed (more c) y
+      fresh : (y : Packet) → y .message ≡ n → y .logical ≡ time → Timed (more x) y
       fresh y e f =
           rw (e, f, new, number)
-          (omega (arith, length-more (all c) (message w c packets)), is .time-is ∙ sym (time-new (all c) (message w c packets)))
+          (omega (arith, length-more (all x) (message w x packets)), is .time-is ∙ sym (time-new (all x) (message w x packets)))
 
-      go : Dec (x ≡ c) → Every (Timed (more x)) (packetsIn (h ++ one) x)
+      go : Dec (u ≡ x) → Every (Timed (more u)) (packetsIn (h ++ one) u)
       go (yes e) =
-          rw (e, packets-new c h n time packets)
-          (every-append (Timed (more c)) (packetsIn h c) (packetsOf n time packets) (rw e at old)
-          (logicals-of (Timed (more c)) n time packets fresh))
-      go (no e) = rw (packets-same x h one ((λ f. e (sym f)), tt)) old
+          rw (e, packets-new x h n time packets)
+          (every-append (Timed (more x)) (packetsIn h x) (packetsOf n time packets) (rw e at old)
+          (logicals-of (Timed (more x)) n time packets fresh))
+      go (no e) = rw (packets-same u h one ((λ f. e (sym f)), tt)) old
 
-  is-message : IsMessage (offered w c packets) more c n time packets
+  is-message : IsMessage (offered w x packets) more x n time packets
   is-message = record {
-    channel = settled-numbers (i .seen .sound) (offer-settled (i .seen .sound) p) c (p .known) .there;
-    inside = rw new (omega (arith, number, length-more (all c) (message w c packets)));
-    time = rw (new, number, time-new (all c) (message w c packets)) (sym (is .time-is));
-    size = rw (new, number, end-new (all c) (message w c packets))
-        (rw (end-old (all c) (message w c packets) (length (all c)) (omega arith), end-all (all c))
-        (rw (accepted-count (i .seen .told c (p .known)))));
+    channel = settled-numbers (i .seen .sound) (offer-settled (i .seen .sound) p) x (p .known) .there;
+    inside = rw new (omega (arith, number, length-more (all x) (message w x packets)));
+    time = rw (new, number, time-new (all x) (message w x packets)) (sym (is .time-is));
+    size = rw (new, number, end-new (all x) (message w x packets))
+        (rw (end-old (all x) (message w x packets) (length (all x)) (omega arith), end-all (all x))
+        (rw (accepted-count (i .seen .told x (p .known)))));
   }
 
-  pub offer-keeps : Invariant (offerStore w c packets) (h ++ (accepted c n time packets ∷ []))
+  pub offer-keeps : Invariant (offerStore w x packets) (h ++ (accepted x n time packets ∷ []))
   offer-keeps = rw (is .store-is) (record {
     seen = offer-seen (i .seen) p adds (i .steady) (i .burst);
     steady = offer-steady (i .seen) p adds (i .steady);
     near = offer-near (i .seen) p adds (i .near);
     burst = offer-in-burst (i .seen) p adds (i .burst);
     within = offer-within (i .seen) p (i .within);
-    logged = rw same-sends (offer-logged (i .seen) c packets (p .known) (message w c packets) new same (i .logged));
+    logged = rw same-sends (offer-logged (i .seen) x packets (p .known) (message w x packets) new same (i .logged));
     names = names;
     logicals = logicals;
-    events = every-append (EventIs (offered w c packets) more) h one
-        (events-stay (settled-numbers (i .seen .sound) (offer-settled (i .seen .sound) p)) (λ x k. longer x) h (i .events))
+    events = every-append (EventIs (offered w x packets) more) h one
+        (events-stay (settled-numbers (i .seen .sound) (offer-settled (i .seen .sound) p)) (λ u k. longer u) h (i .events))
         (is-message, tt);
-    known = λ x k. still-opened h one x (i .known x (rw (channels-same (offer-settled (i .seen .sound) p)) at k));
+    known = λ u k. still-opened h one u (i .known u (rw (channels-same (offer-settled (i .seen .sound) p)) at k));
   })

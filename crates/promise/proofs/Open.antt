@@ -38,10 +38,10 @@ set-up-makes w links e = record {
   burst = fresh-in-burst w links e;
   within = fresh-within w links e;
   logged = none-logged (fresh-channels w links e);
-  names = λ c. refl;
-  logicals = λ c. tt;
+  names = λ x. refl;
+  logicals = λ x. tt;
   events = tt;
-  known = λ c k. absurd (omega (arith, fresh-channels w links e));
+  known = λ x k. absurd (omega (arith, fresh-channels w links e));
 }
 
 module _ {w : Store} {h : List Event} (i : Invariant w h) (q : Request) (n : ℕ) (a : openOutcome w q ≡ Accepted n) where
@@ -58,7 +58,7 @@ module _ {w : Store} {h : List Event} (i : Invariant w h) (q : Request) (n : ℕ
   keeps = record { network = g .network; more = omega (arith, g .channels, g .number); channel = g .old }
 
   same-messages : messagesIn (h ++ one) ≡ messagesIn h
-  same-messages = fun-ext (λ c. messages-same c h one tt)
+  same-messages = fun-ext (λ x. messages-same x h one tt)
 
   same-sends : sendsIn (h ++ one) ≡ sendsIn h
   unfolding sendsIn
@@ -87,14 +87,14 @@ module _ {w : Store} {h : List Event} (i : Invariant w h) (q : Request) (n : ℕ
     within = open-within (i .seen) q n a (i .within);
     logged = rw (same-messages, same-sends)
         (open-logged (i .seen) keeps (rw (g .channels, g .number) refl) fresh (i .logged));
-    names = λ c. rw (packets-same c h one tt, messages-same c h one tt) (i .names c);
-    logicals = λ c. rw (packets-same c h one tt, messages-same c h one tt) (i .logicals c);
+    names = λ x. rw (packets-same x h one tt, messages-same x h one tt) (i .names x);
+    logicals = λ x. rw (packets-same x h one tt, messages-same x h one tt) (i .logicals x);
     events = rw same-messages (every-append (EventIs w′ (messagesIn h)) h one
         (events-stay
         (kept-numbers (i .seen .sound) keeps)
-        (λ c k. as-long (messagesIn h c) (messagesIn h c) refl) h (i .events)) (new, tt));
-    known = λ c k. below c n (rw (g .channels) at k)
-        (λ l. still-opened h one c (i .known c (rw (← g .number) l)))
+        (λ x k. as-long (messagesIn h x) (messagesIn h x) refl) h (i .events)) (new, tt));
+    known = λ x k. below x n (rw (g .channels) at k)
+        (λ l. still-opened h one x (i .known x (rw (← g .number) l)))
         (λ e. rw e (record { request = q; answer = openAnswer w q; there = Memᴰ·append-right h (List·Memᴰ·head refl) }));
   }
     where

@@ -23,42 +23,42 @@ use Rattle.promise.specs.Promise.{Event, timesIn, ownTime, ownAnswer, As
 use Rattle.promise.proofs.History.{messagesIn, times-are, own-first, own-next}
 use Rattle.promise.proofs.Invariant.{Invariant}
 
-module _ {w : Store} {h : List Event} (i : Invariant w h) (c : ℕ) (q : Request) (answer : Opening) (o : AsOpened w c q answer)
+module _ {w : Store} {h : List Event} (i : Invariant w h) (x : ℕ) (q : Request) (answer : Opening) (o : AsOpened w x q answer)
     (packets : ℕ) where
   abbrev ms : List Message
-  ms = messagesIn h c
+  ms = messagesIn h x
 
-  times : timesIn h c ≡ map (λ m. m .time) ms
-  times = times-are 0 h c
+  times : timesIn h x ≡ map (λ m. m .time) ms
+  times = times-are 0 h x
 
   -- the logical time
-  time-is : offerTime w c ≡ ownTime (q .p) (clockOf w) (timesIn h c)
+  time-is : offerTime w x ≡ ownTime (q .p) (clockOf w) (timesIn h x)
   time-is = rw times (go (length ms) refl)
     where
-      go : (n : ℕ) → length ms ≡ n → offerTime w c ≡ ownTime (q .p) (clockOf w) (map (λ m. m .time) ms)
-      go zero e = offer-time-first (i .seen .told c (o .number)) e ∙ sym (own-first (q .p) (clockOf w) ms e)
+      go : (n : ℕ) → length ms ≡ n → offerTime w x ≡ ownTime (q .p) (clockOf w) (map (λ m. m .time) ms)
+      go zero e = offer-time-first (i .seen .told x (o .number)) e ∙ sym (own-first (q .p) (clockOf w) ms e)
       go (suc n) e =
-          offer-time-next (i .seen .told c (o .number)) n e
+          offer-time-next (i .seen .told x (o .number)) n e
           ∙ rw (o .p-is) (sym (own-next (q .p) (clockOf w) ms n e))
 
-  count-is : messagesOf w c ≡ length (timesIn h c)
-  count-is = i .seen .told c (o .number) .count ∙ (sym (length-map ms (λ m. m .time)) ∙ ap length (sym times))
+  count-is : messagesOf w x ≡ length (timesIn h x)
+  count-is = i .seen .told x (o .number) .count ∙ (sym (length-map ms (λ m. m .time)) ∙ ap length (sym times))
 
-  burst-is : inBurst w c ≡ leb (ownTime (q .p) (clockOf w) (timesIn h c) - clockOf w) ((q .b - 1) * q .p)
+  burst-is : inBurst w x ≡ leb (ownTime (q .p) (clockOf w) (timesIn h x) - clockOf w) ((q .b - 1) * q .p)
   burst-is = rw (time-is, o .b-is, o .p-is)
 
   -- the first three checks that an offer of this channel can fail, as the rule has them
-  known : isChannel w c ≡ true
-  known = lt-ltb c (channelsOf w) (o .number)
+  known : isChannel w x ≡ true
+  known = lt-ltb x (channelsOf w) (o .number)
 
-  size-is : within 1 (cOf w c) packets ≡ within 1 (q .c) packets
+  size-is : within 1 (cOf w x) packets ≡ within 1 (q .c) packets
   size-is = rw (o .c-is)
 
   -- and where they hold, the store after the offer is sound
-  sound : ltb (clockOf w) endSlot ≡ true → within 1 (q .c) packets ≡ true → inBurst w c ≡ true
-      → soundOf (offered w c packets) ≡ true
+  sound : ltb (clockOf w) endSlot ≡ true → within 1 (q .c) packets ≡ true → inBurst w x ≡ true
+      → soundOf (offered w x packets) ≡ true
   sound e f g =
-      let size = within-true 1 (cOf w c) packets (size-is ∙ f) in
+      let size = within-true 1 (cOf w x) packets (size-is ∙ f) in
       offer-sound (i .seen) (record {
         running = ltb-true (clockOf w) endSlot e;
         known = o .number;
@@ -67,12 +67,12 @@ module _ {w : Store} {h : List Event} (i : Invariant w h) (c : ℕ) (q : Request
         burst = g;
       }) (i .steady) (i .burst)
 
-  pub own-answer : offerAnswer w c packets ≡ ownAnswer q (timesIn h c) packets (clockOf w)
+  pub own-answer : offerAnswer w x packets ≡ ownAnswer q (timesIn h x) packets (clockOf w)
   unfolding offerAnswer ownAnswer firstFailed
-  own-answer = go (ltb (clockOf w) endSlot) (within 1 (q .c) packets) (inBurst w c) refl refl refl
+  own-answer = go (ltb (clockOf w) endSlot) (within 1 (q .c) packets) (inBurst w x) refl refl refl
     where
-      go : (a b d : Bool) → ltb (clockOf w) endSlot ≡ a → within 1 (q .c) packets ≡ b → inBurst w c ≡ d
-          → offerAnswer w c packets ≡ ownAnswer q (timesIn h c) packets (clockOf w)
+      go : (a b d : Bool) → ltb (clockOf w) endSlot ≡ a → within 1 (q .c) packets ≡ b → inBurst w x ≡ d
+          → offerAnswer w x packets ≡ ownAnswer q (timesIn h x) packets (clockOf w)
       go false b d e f g = rw (is-sound w (i .seen .sound), e)
       go true false d e f g = rw (is-sound w (i .seen .sound), e, known, size-is, f)
       go true true false e f g = rw (is-sound w (i .seen .sound), e, known, size-is, f, g, ← burst-is, g)

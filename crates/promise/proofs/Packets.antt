@@ -22,51 +22,51 @@ every-between P d [] zero zero f = tt
 every-between P d [] zero (suc b) f = tt
 every-between P d [] (suc a) zero f = tt
 every-between P d [] (suc a) (suc b) f = tt
-every-between P d (x ∷ xs) zero zero f = tt
-every-between P d (x ∷ xs) (suc a) zero f = tt
-every-between P d (x ∷ xs) zero (suc b) f = (
+every-between P d (y ∷ xs) zero zero f = tt
+every-between P d (y ∷ xs) (suc a) zero f = tt
+every-between P d (y ∷ xs) zero (suc b) f = (
   f 0 (omega arith) (omega arith) (omega arith),
   every-between P d xs zero b (λ i h k l. f (suc i) (omega arith) (omega arith) (omega arith)),
 )
-every-between P d (x ∷ xs) (suc a) (suc b) f =
+every-between P d (y ∷ xs) (suc a) (suc b) f =
     every-between P d xs a b (λ i h k l. f (suc i) (omega arith) (omega arith) (omega arith))
 
 -- and back
 pub every-get : {A : Type 0} (P : A → Type 0) (d : A) (xs : List A) → Every P xs → (i : ℕ) → i < length xs → P (getD xs i d)
 every-get P d [] e i h = absurd (omega arith)
-every-get P d (x ∷ xs) e zero h = e .0
-every-get P d (x ∷ xs) e (suc i) h = every-get P d xs (e .1) i (omega arith)
+every-get P d (y ∷ xs) e zero h = e .0
+every-get P d (y ∷ xs) e (suc i) h = every-get P d xs (e .1) i (omega arith)
 
--- Packet number x is of message n.
-pub record Of (ms : List Message) (x n : ℕ) : Type 0 where
+-- Packet number y is of message n.
+pub record Of (ms : List Message) (y n : ℕ) : Type 0 where
   pub inside : n < length ms
-  pub starts : endAfter ms n ≤ x
-  pub ends : x < endAfter ms (suc n)
+  pub starts : endAfter ms n ≤ y
+  pub ends : y < endAfter ms (suc n)
 
-module _ (c p : ℕ) (ms : List Message) (o : Orderly c p 0 0 ms) where
-  pub message-of : (x : ℕ) → x < ended 0 ms → Of ms x (passed x ms)
-  message-of x h = go (decLt (passed x ms) (length ms))
+module _ (x p : ℕ) (ms : List Message) (o : Orderly x p 0 0 ms) where
+  pub message-of : (y : ℕ) → y < ended 0 ms → Of ms y (passed y ms)
+  message-of y h = go (decLt (passed y ms) (length ms))
     where
-      go : Dec (passed x ms < length ms) → Of ms x (passed x ms)
+      go : Dec (passed y ms < length ms) → Of ms y (passed y ms)
       go (yes l) = record {
         inside = l;
-        starts = passed-end c p ms o x (passed x ms) (omega arith);
-        ends = passed-next c p ms o x (passed x ms) (omega arith) l;
+        starts = passed-end x p ms o y (passed y ms) (omega arith);
+        ends = passed-next x p ms o y (passed y ms) (omega arith) l;
       }
       go (no l) =
-          let e : length ms ≤ passed x ms = omega (arith, l) in
-          absurd (omega (arith, passed-end c p ms o x (length ms) e, end-all ms))
+          let e : length ms ≤ passed y ms = omega (arith, l) in
+          absurd (omega (arith, passed-end x p ms o y (length ms) e, end-all ms))
 
   -- by its message and its number there
   module _ (xs : List Packet) (names : map nameOf xs ≡ packetsFrom 0 0 ms) (d : Packet) where
     pub packets-count : length xs ≡ ended 0 ms
-    packets-count = sym (length-map xs nameOf) ∙ (ap length names ∙ packets-length c p ms o)
+    packets-count = sym (length-map xs nameOf) ∙ (ap length names ∙ packets-length x p ms o)
 
-    pub packet-name : (x n : ℕ) → Of ms x n → x < ended 0 ms → nameOf (getD xs x d) ≡ (n, x - endAfter ms n)
-    packet-name x n i h =
+    pub packet-name : (y n : ℕ) → Of ms y n → y < ended 0 ms → nameOf (getD xs y d) ≡ (n, y - endAfter ms n)
+    packet-name y n i h =
         let all : List (ℕ × ℕ) = packetsFrom 0 0 ms in
-        let l : x < length all = omega (arith, packets-length c p ms o) in
-        let e : take x all ++ (getD all x (nameOf d) ∷ []) ≡ take x all ++ ((n, x - endAfter ms n) ∷ []) =
-        sym (take-suc all x (nameOf d) l) ∙ packet-next c p ms o n x (i .inside) (i .starts) (i .ends) in
-        sym (List·getD-map nameOf xs x d) ∙ (ap (λ (ys : List (ℕ × ℕ)). getD ys x (nameOf d)) names
-        ∙ same-at (take x all) (take x all) [] [] _ _ e refl)
+        let l : y < length all = omega (arith, packets-length x p ms o) in
+        let e : take y all ++ (getD all y (nameOf d) ∷ []) ≡ take y all ++ ((n, y - endAfter ms n) ∷ []) =
+        sym (take-suc all y (nameOf d) l) ∙ packet-next x p ms o n y (i .inside) (i .starts) (i .ends) in
+        sym (List·getD-map nameOf xs y d) ∙ (ap (λ (ys : List (ℕ × ℕ)). getD ys y (nameOf d)) names
+        ∙ same-at (take y all) (take y all) [] [] _ _ e refl)

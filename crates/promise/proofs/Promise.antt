@@ -32,10 +32,10 @@ use Rattle.promise.proofs.Slot.{slot-keeps}
 use Rattle.promise.proofs.Own.{own-answer}
 use Rattle.promise.proofs.Arrives.{every-in, sent-in-time, arrives}
 
-refused-offer : (w : Store) (c packets number place : ℕ) → offerAnswer w c packets ≡ Refused number place
-    → offerStore w c packets ≡ w
+refused-offer : (w : Store) (x packets number place : ℕ) → offerAnswer w x packets ≡ Refused number place
+    → offerStore w x packets ≡ w
 unfolding offerStore
-refused-offer w c packets number place e = rw e
+refused-offer w x packets number place e = rw e
 
 module _ {w : Store} {h : List Event} (i : Invariant w h) where
   -- each call; a refused one changes nothing
@@ -47,14 +47,14 @@ module _ {w : Store} {h : List Event} (i : Invariant w h) where
       go (Opened n) e = rw e (open-keeps i q n e)
       go (NotOpened number place) e = rw (refused-open w q number place e, e, append-nil h) i
 
-  offer-call : (c packets : ℕ) → Invariant (storeAfter (offers c packets) w) (h ++ eventsIn (offers c packets) w)
+  offer-call : (x packets : ℕ) → Invariant (storeAfter (offers x packets) w) (h ++ eventsIn (offers x packets) w)
   unfolding storeAfter eventsIn offerEvents
-  offer-call c packets = go (offerAnswer w c packets) refl
+  offer-call x packets = go (offerAnswer w x packets) refl
     where
-      go : (a : Offered) → offerAnswer w c packets ≡ a
-          → Invariant (offerStore w c packets) (h ++ offerEvents (offerAnswer w c packets) c packets)
-      go (Accepted n time) e = rw e (offer-keeps i c packets n time e)
-      go (Refused number place) e = rw (refused-offer w c packets number place e, e, append-nil h) i
+      go : (a : Offered) → offerAnswer w x packets ≡ a
+          → Invariant (offerStore w x packets) (h ++ offerEvents (offerAnswer w x packets) x packets)
+      go (Accepted n time) e = rw e (offer-keeps i x packets n time e)
+      go (Refused number place) e = rw (refused-offer w x packets number place e, e, append-nil h) i
 
   slot-call : (room : ℕ) → Invariant (storeAfter (runs room) w) (h ++ eventsIn (runs room) w)
   unfolding storeAfter eventsIn
@@ -64,9 +64,9 @@ module _ {w : Store} {h : List Event} (i : Invariant w h) where
       go Ran e = slot-keeps i room e
       go (NotRun number place) e = rw (e, append-nil h) i
 
-  any-call : (x : Call) → Invariant (storeAfter x w) (h ++ eventsIn x w)
+  any-call : (y : Call) → Invariant (storeAfter y w) (h ++ eventsIn y w)
   any-call (opens q) = open-call q
-  any-call (offers c packets) = offer-call c packets
+  any-call (offers x packets) = offer-call x packets
   any-call (runs room) = slot-call room
 
   slot-number : (room : ℕ) (t : Turn) → slotTurn w room ≡ t → slotNumber w room ≡ 17 → ⊥
@@ -85,7 +85,7 @@ module _ {w : Store} {h : List Event} (i : Invariant w h) where
 -- the invariant of every store that is reached
 pub holds : (w : Store) (h : List Event) → Reached w h → Invariant w h
 holds w h (fresh w₀ links e) = set-up-makes w₀ links e
-holds w h (next w₀ h₀ r x) = any-call (holds w₀ h₀ r) x
+holds w h (next w₀ h₀ r y) = any-call (holds w₀ h₀ r) y
 
 pub promise : (w : Store) (h : List Event) → Reached w h → Promise w h
 promise w h r =
@@ -97,7 +97,7 @@ promise w h r =
       arrives = arrives i;
       conserved = conserved i;
       never-17 = never-17 i;
-      own-rule = λ c q answer m packets. own-answer i c q answer (every-in _ h (i .events) _ m) packets;
-      as-opened = λ c q answer m. every-in _ h (i .events) _ m;
+      own-rule = λ x q answer m packets. own-answer i x q answer (every-in _ h (i .events) _ m) packets;
+      as-opened = λ x q answer m. every-in _ h (i .events) _ m;
       was-opened = i .known;
     }

@@ -28,7 +28,7 @@ use Rattle.promise.proofs.Events.{events-stay}
 
 events-of : (w : Store) (all : Accepted) (xs : List Send) → Every (EventIs w all) (map sent xs)
 events-of w all [] = tt
-events-of w all (x ∷ xs) = (tt, events-of w all xs)
+events-of w all (y ∷ xs) = (tt, events-of w all xs)
 
 module _ {w : Store} {h : List Event} (i : Invariant w h) (room : ℕ) (r : slotTurn w room ≡ Ran) where
   abbrev sends : List Event
@@ -40,11 +40,11 @@ module _ {w : Store} {h : List Event} (i : Invariant w h) (room : ℕ) (r : slot
       let all = accepted-all NotRun (slotChecks w room) Ran Ran (λ m at e. let z : _≡_ {A = ℕ} 0 1 = cc in omega arith) r in
       ltb-true (clockOf w) endSlot (all .1 .0)
 
-  without : (c : ℕ) → messagesIn (h ++ sends) c ≡ messagesIn h c
-  without c = messages-same c h sends (sends-without c (slotSends w))
+  without : (x : ℕ) → messagesIn (h ++ sends) x ≡ messagesIn h x
+  without x = messages-same x h sends (sends-without x (slotSends w))
 
-  packets : (c : ℕ) → packetsIn (h ++ sends) c ≡ packetsIn h c
-  packets c = packets-same c h sends (sends-without c (slotSends w))
+  packets : (x : ℕ) → packetsIn (h ++ sends) x ≡ packetsIn h x
+  packets x = packets-same x h sends (sends-without x (slotSends w))
 
   same : messagesIn (h ++ sends) ≡ messagesIn h
   same = fun-ext without
@@ -60,13 +60,13 @@ module _ {w : Store} {h : List Event} (i : Invariant w h) (room : ℕ) (r : slot
     burst = rw same (in-burst-after (i .seen) (i .burst));
     within = within-after (i .seen) (i .within);
     logged = rw (same, all-sends) (slot-logged (i .seen) (i .steady) (i .logged));
-    names = λ c. rw (packets c, without c) (i .names c);
-    logicals = λ c. rw (packets c, without c) (i .logicals c);
+    names = λ x. rw (packets x, without x) (i .names x);
+    logicals = λ x. rw (packets x, without x) (i .logicals x);
     events = rw same (every-append (EventIs (moved w) (messagesIn h)) h sends
         (events-stay (settled-numbers (i .seen .sound) (moved-settled (i .seen .sound)))
-        (λ c k. as-long (messagesIn h c) (messagesIn h c) refl) h (i .events))
+        (λ x k. as-long (messagesIn h x) (messagesIn h x) refl) h (i .events))
         (events-of (moved w) (messagesIn h) (slotSends w)));
-    known = λ c k. still-opened h sends c (i .known c (rw (channels-same (moved-settled (i .seen .sound))) at k));
+    known = λ x k. still-opened h sends x (i .known x (rw (channels-same (moved-settled (i .seen .sound))) at k));
   }
 
   pub slot-keeps : Invariant (slotStore w room) (h ++ map sent (slotSent w room))

@@ -44,10 +44,10 @@ module _ (ms : List Message) (m : Message) (n : ℕ) where
         start = rw e (end-old ms m (length ms) (omega arith) ∙ end-all ms);
       }))
 
-pub on-channels : {w : Store} {c packets : ℕ} {all all′ : Accepted} → Adds w c packets all all′ → (P : ℕ → List Message → Type 0)
-    → P c (all c ++ (message w c packets ∷ [])) → (x : ℕ) → ((x ≡ c → ⊥) → P x (all x)) → P x (all′ x)
-on-channels {w} {c} {packets} {all} {all′} a P own x other = go (ℕ-discrete x c)
+pub on-channels : {w : Store} {x packets : ℕ} {all all′ : Accepted} → Adds w x packets all all′ → (P : ℕ → List Message → Type 0)
+    → P x (all x ++ (message w x packets ∷ [])) → (y : ℕ) → ((y ≡ x → ⊥) → P y (all y)) → P y (all′ y)
+on-channels {w} {x} {packets} {all} {all′} a P own y other = go (ℕ-discrete y x)
   where
-    go : Dec (x ≡ c) → P x (all′ x)
+    go : Dec (y ≡ x) → P y (all′ y)
     go (yes e) = rw (e, a .new) own
-    go (no e) = rw (a .same x e) (other e)
+    go (no e) = rw (a .same y e) (other e)

@@ -10,11 +10,11 @@ use Rattle.offer_rules.specs.Offer.{offered}
 use Rattle.offer_keeps.proofs.Frame.{offered-frame, offered-settled}
 use Rattle.promise_offer.proofs.Passed.{Passed}
 
-module _ {w : Store} (sound : Sound w) {c packets : ℕ} (p : Passed w c packets) where
-  pub offer-settled : Settled w (offered w c packets)
-  offer-settled = offered-settled w c packets (few-channels sound c (p .known))
+module _ {w : Store} (sound : Sound w) {x packets : ℕ} (p : Passed w x packets) where
+  pub offer-settled : Settled w (offered w x packets)
+  offer-settled = offered-settled w x packets (few-channels sound x (p .known))
 
-  pub offer-sent : (x j : ℕ) → IsChannel w x → j < hopsOf w x → sentOf (offered w c packets) x j ≡ sentOf w x j
-  offer-sent x j h i =
-      let k = sound .channel x h .hops-most in
-      offered-frame w c packets (sentAt x j) (λ e. omega arith) (λ e. omega arith) (λ e. omega arith)
+  pub offer-sent : (y j : ℕ) → IsChannel w y → j < hopsOf w y → sentOf (offered w x packets) y j ≡ sentOf w y j
+  offer-sent y j h i =
+      let k = sound .channel y h .hops-most in
+      offered-frame w x packets (sentAt y j) (λ e. omega arith) (λ e. omega arith) (λ e. omega arith)

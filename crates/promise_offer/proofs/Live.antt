@@ -17,28 +17,28 @@ use Rattle.promise_offer.proofs.Each.{Old, New, each}
 use Rattle.promise_offer.proofs.Time.{time-present, time-most}
 
 -- a logical time at the source, with so many slots up to the deadline
-abbrev pub Live : Store → (c slots ℓ : ℕ) → Type 0
-Live w c slots ℓ = (clockOf w < ℓ + slots) × (ℓ ≤ clockOf w + (bOf w c - 1) * pOf w c)
+abbrev pub Live : Store → (x slots ℓ : ℕ) → Type 0
+Live w x slots ℓ = (clockOf w < ℓ + slots) × (ℓ ≤ clockOf w + (bOf w x - 1) * pOf w x)
 
-module _ {w : Store} {all : Accepted} (s : Seen w all) (on : Steady w all) (burst : InBurst w all) {c packets : ℕ}
-    (p : Passed w c packets) (j : ℕ) (h : j < hopsOf w c) (n : ℕ) where
+module _ {w : Store} {all : Accepted} (s : Seen w all) (on : Steady w all) (burst : InBurst w all) {x packets : ℕ}
+    (p : Passed w x packets) (j : ℕ) (h : j < hopsOf w x) (n : ℕ) where
   abbrev more : List Message
-  more = all c ++ (message w c packets ∷ [])
+  more = all x ++ (message w x packets ∷ [])
 
   abbrev slots : ℕ
-  slots = sumTo (delayOf w c) (suc j)
+  slots = sumTo (delayOf w x) (suc j)
 
-  old-live : sentOf w c j < endAfter more (suc n) → Old (all c) (message w c packets) n → Live w c slots (timeAt more n)
+  old-live : sentOf w x j < endAfter more (suc n) → Old (all x) (message w x packets) n → Live w x slots (timeAt more n)
   old-live g o =
-      let unsent : sentOf w c j < endAfter (all c) (suc n) = rw (o .end) at g in
+      let unsent : sentOf w x j < endAfter (all x) (suc n) = rw (o .end) at g in
       rw (o .time)
-      (before-due s (clockOf w) on c j n (p .known) h (o .inside) unsent, burst c n (p .known) (o .inside))
+      (before-due s (clockOf w) on x j n (p .known) h (o .inside) unsent, burst x n (p .known) (o .inside))
 
-  new-live : New (all c) (message w c packets) n → Live w c slots (timeAt more n)
+  new-live : New (all x) (message w x packets) n → Live w x slots (timeAt more n)
   new-live o =
-      let d = s .sound .channel c (p .known) .delay-least j h in
+      let d = s .sound .channel x (p .known) .delay-least j h in
       rw (o .time)
-      (omega (arith, time-present w c, sum-part (delayOf w c) (suc j) j (omega arith)), time-most p)
+      (omega (arith, time-present w x, sum-part (delayOf w x) (suc j) j (omega arith)), time-most p)
 
-  pub unsent-live : n < length more → sentOf w c j < endAfter more (suc n) → Live w c slots (timeAt more n)
-  unsent-live l g = each (all c) (message w c packets) n l (old-live g) new-live
+  pub unsent-live : n < length more → sentOf w x j < endAfter more (suc n) → Live w x slots (timeAt more n)
+  unsent-live l g = each (all x) (message w x packets) n l (old-live g) new-live

@@ -11,18 +11,18 @@ use Rattle.offer_rules.specs.Offer.{offerTime, inBurst}
 use Rattle.promise_view.specs.View.{Accepted}
 
 -- "14, 11, 12, 13"
-pub record Passed (w : Store) (c packets : ℕ) : Type 0 where
+pub record Passed (w : Store) (x packets : ℕ) : Type 0 where
   pub running : clockOf w < endSlot
-  pub known : IsChannel w c
+  pub known : IsChannel w x
   pub least : 1 ≤ packets
-  pub most : packets ≤ cOf w c
-  pub burst : inBurst w c ≡ true
+  pub most : packets ≤ cOf w x
+  pub burst : inBurst w x ≡ true
 
 -- the new message: its logical time, and its packets after all that were accepted before
-abbrev pub message : Store → (c packets : ℕ) → Message
-message w c packets = record { time = offerTime w c; end = acceptedOf w c + packets }
+abbrev pub message : Store → (x packets : ℕ) → Message
+message w x packets = record { time = offerTime w x; end = acceptedOf w x + packets }
 
--- channel c has one message more, and no other channel has
-pub record Adds (w : Store) (c packets : ℕ) (all all′ : Accepted) : Type 0 where
-  pub new : all′ c ≡ all c ++ (message w c packets ∷ [])
-  pub same : (x : ℕ) → (x ≡ c → ⊥) → all′ x ≡ all x
+-- channel x has one message more, and no other channel has
+pub record Adds (w : Store) (x packets : ℕ) (all all′ : Accepted) : Type 0 where
+  pub new : all′ x ≡ all x ++ (message w x packets ∷ [])
+  pub same : (y : ℕ) → (y ≡ x → ⊥) → all′ y ≡ all y

@@ -33,78 +33,78 @@ use Rattle.promise_offer.proofs.Told.{more-orderly}
 use Rattle.promise_offer.proofs.Order.{in-order}
 use Rattle.promise_offer.proofs.Live.{Live, unsent-live}
 
-module _ {w : Store} {all : Accepted} (s : Seen w all) {c packets : ℕ} (p : Passed w c packets) where
+module _ {w : Store} {all : Accepted} (s : Seen w all) {x packets : ℕ} (p : Passed w x packets) where
   abbrev ms : List Message
-  ms = all c
+  ms = all x
 
   abbrev more : List Message
-  more = ms ++ (message w c packets ∷ [])
+  more = ms ++ (message w x packets ∷ [])
 
-  k : ChannelIs w c
-  k = s .sound .channel c (p .known)
+  k : ChannelIs w x
+  k = s .sound .channel x (p .known)
 
-  order : Orderly (cOf w c) (pOf w c) 0 0 more
-  order = more-orderly (s .orderly c) (s .told c (p .known)) p
+  order : Orderly (cOf w x) (pOf w x) 0 0 more
+  order = more-orderly (s .orderly x) (s .told x (p .known)) p
 
   -- message n has a logical time of at least n × p
-  number-small : isNumber (messagesOf w c + 1) ≡ true
+  number-small : isNumber (messagesOf w x + 1) ≡ true
   number-small =
       let n : ℕ = length ms in
-      let b : bOf w c - 1 ≤ mostB - 1 = omega (arith, k .good .b-most) in
-      le-leb (messagesOf w c + 1) mostNumber
+      let b : bOf w x - 1 ≤ mostB - 1 = omega (arith, k .good .b-most) in
+      le-leb (messagesOf w x + 1) mostNumber
       (omega (
         arith,
-        s .told c (p .known) .count,
+        s .told x (p .known) .count,
         p .running,
         mul-le-mul-left n (k .good .p-least),
         time-most p,
         mul-le-mul b (k .good .p-most),
-        time-new ms (message w c packets),
-        time-least (cOf w c) (pOf w c) more order n (omega (arith, length-more ms (message w c packets))),
+        time-new ms (message w x packets),
+        time-least (cOf w x) (pOf w x) more order n (omega (arith, length-more ms (message w x packets))),
       ))
 
   -- no route takes longer than 8 × p
-  slots-most : sumTo (delayOf w c) (hopsOf w c) ≤ mostHops * pOf w c
+  slots-most : sumTo (delayOf w x) (hopsOf w x) ≤ mostHops * pOf w x
   slots-most =
-      omega (arith, sum-most (delayOf w c) (pOf w c) (hopsOf w c) (k .delay-most), mul-le-mul-left (pOf w c) (k .hops-most))
+      omega (arith, sum-most (delayOf w x) (pOf w x) (hopsOf w x) (k .delay-most), mul-le-mul-left (pOf w x) (k .hops-most))
 
   -- in 8 × p slots before now and (B − 1) × p after there are at most 23
-  few : (slots e : ℕ) (times : List ℕ) → slots ≤ mostHops * pOf w c → Spread (pOf w c) e times → Every (Live w c slots) times
+  few : (slots e : ℕ) (times : List ℕ) → slots ≤ mostHops * pOf w x → Spread (pOf w x) e times → Every (Live w x slots) times
       → length times ≤ ring - 1
   few slots e times most apart live =
-      let b : bOf w c - 1 ≤ mostB - 1 = omega (arith, k .good .b-most) in
-      let ahead = mul-le-mul-right (pOf w c) b in
-      let n : ℕ = (ring - 1) * pOf w c in
-      let blocks : (n - 1) / pOf w c < ring - 1 = div-lt-iff-lt-mul (k .good .p-least) .1 (omega (arith, k .good .p-least)) in
-      let many = in-stretch (pOf w c) e times apart (clockOf w + 1 - slots) n (k .good .p-least)
+      let b : bOf w x - 1 ≤ mostB - 1 = omega (arith, k .good .b-most) in
+      let ahead = mul-le-mul-right (pOf w x) b in
+      let n : ℕ = (ring - 1) * pOf w x in
+      let blocks : (n - 1) / pOf w x < ring - 1 = div-lt-iff-lt-mul (k .good .p-least) .1 (omega (arith, k .good .p-least)) in
+      let many = in-stretch (pOf w x) e times apart (clockOf w + 1 - slots) n (k .good .p-least)
       (every-imp _ _ times (λ ℓ h. (omega (arith, h .0), omega (arith, h .0, h .1))) live) in
       omega arith
 
   module _ (on : Steady w all) (burst : InBurst w all) where
     -- at most 23 with the new one are not delivered
-    order-kept : inOrder w c (messagesOf w c) (ring - 2) ≡ true
+    order-kept : inOrder w x (messagesOf w x) (ring - 2) ≡ true
     order-kept =
-        let j : ℕ = hopsOf w c - 1 in
-        let h : j < hopsOf w c = omega (arith, k .hops-least) in
-        let last : suc j ≡ hopsOf w c = omega (arith, k .hops-least) in
-        let x : ℕ = deliveredOf w c in
-        let live = few-live (cOf w c) (pOf w c) more order (Live w c (sumTo (delayOf w c) (suc j))) x (ring - 1)
-        (unsent-live s on burst p j h) (λ e times. few (sumTo (delayOf w c) (suc j)) e times (rw last slots-most)) in
-        rw (s .told c (p .known) .count)
-        (in-order (s .told c (p .known)) (s .orderly c) (passed x more)
-        (λ i l m. omega (arith, passed-end (cOf w c) (pOf w c) more order x i m, end-old ms (message w c packets) i l))
-        (length ms) (ring - 2) (omega arith) (omega arith) (omega (arith, live, length-more ms (message w c packets))))
+        let j : ℕ = hopsOf w x - 1 in
+        let h : j < hopsOf w x = omega (arith, k .hops-least) in
+        let last : suc j ≡ hopsOf w x = omega (arith, k .hops-least) in
+        let v : ℕ = deliveredOf w x in
+        let live = few-live (cOf w x) (pOf w x) more order (Live w x (sumTo (delayOf w x) (suc j))) v (ring - 1)
+        (unsent-live s on burst p j h) (λ e times. few (sumTo (delayOf w x) (suc j)) e times (rw last slots-most)) in
+        rw (s .told x (p .known) .count)
+        (in-order (s .told x (p .known)) (s .orderly x) (passed v more)
+        (λ i l m. omega (arith, passed-end (cOf w x) (pOf w x) more order v i m, end-old ms (message w x packets) i l))
+        (length ms) (ring - 2) (omega arith) (omega arith) (omega (arith, live, length-more ms (message w x packets))))
 
     -- at most B with the new one are held at the first place
-    held-small : heldOf w c 0 + packets ≤ reservedOf w c 0
+    held-small : heldOf w x 0 + packets ≤ reservedOf w x 0
     unfolding reservedOf enteredOf
     held-small =
-        let d : ℕ = sumTo (delayOf w c) 1 in
-        let short = sum-most (delayOf w c) (pOf w c) 1 (λ j h. k .delay-most j (omega (arith, k .hops-least))) in
-        let held = few-held (cOf w c) (pOf w c) more order (Live w c d) 0 (sentOf w c 0) (ended 0 more) (bOf w c) (omega arith)
+        let d : ℕ = sumTo (delayOf w x) 1 in
+        let short = sum-most (delayOf w x) (pOf w x) 1 (λ j h. k .delay-most j (omega (arith, k .hops-least))) in
+        let held = few-held (cOf w x) (pOf w x) more order (Live w x d) 0 (sentOf w x 0) (ended 0 more) (bOf w x) (omega arith)
         (λ i l g _. let u = unsent-live s on burst p 0 (k .hops-least) i l g in (omega (arith, u .0), omega (arith, u .1)))
-        (λ e times apart. on-first (pOf w c) e times apart (clockOf w) d (bOf w c) (k .good .b-least) (omega arith)) in
-        omega (arith, held, ended-more 0 ms (message w c packets), k .flows 0 (k .hops-least))
+        (λ e times apart. on-first (pOf w x) e times apart (clockOf w) d (bOf w x) (k .good .b-least) (omega arith)) in
+        omega (arith, held, ended-more 0 ms (message w x packets), k .flows 0 (k .hops-least))
 
-    pub has-room : hasRoom w c packets ≡ true
-    has-room = both _ _ number-small (both _ _ order-kept (le-leb (heldOf w c 0 + packets) (reservedOf w c 0) held-small))
+    pub has-room : hasRoom w x packets ≡ true
+    has-room = both _ _ number-small (both _ _ order-kept (le-leb (heldOf w x 0 + packets) (reservedOf w x 0) held-small))

@@ -15,15 +15,15 @@ use Rattle.promise_offer.proofs.Kept.{offer-settled}
 use Rattle.promise_offer.proofs.Told.{offer-told, offer-orderly, offer-none}
 use Rattle.promise_offer.proofs.Room.{has-room}
 
-module _ {w : Store} {all : Accepted} (s : Seen w all) {c packets : ℕ} (p : Passed w c packets) where
-  pub offer-sound : Steady w all → InBurst w all → soundOf (offered w c packets) ≡ true
+module _ {w : Store} {all : Accepted} (s : Seen w all) {x packets : ℕ} (p : Passed w x packets) where
+  pub offer-sound : Steady w all → InBurst w all → soundOf (offered w x packets) ≡ true
   offer-sound on burst =
-      offered-sound w c packets (is-sound w (s .sound)) (p .running) (p .known) (p .least) (p .most) (p .burst)
+      offered-sound w x packets (is-sound w (s .sound)) (p .running) (p .known) (p .least) (p .most) (p .burst)
       ∙ has-room s p on burst
 
-  pub offer-seen : {all′ : Accepted} → Adds w c packets all all′ → Steady w all → InBurst w all → Seen (offered w c packets) all′
+  pub offer-seen : {all′ : Accepted} → Adds w x packets all all′ → Steady w all → InBurst w all → Seen (offered w x packets) all′
   offer-seen a on burst = record {
-    sound = sound-is (offered w c packets) (offer-sound on burst);
+    sound = sound-is (offered w x packets) (offer-sound on burst);
     tables = tables-kept (offer-settled (s .sound) p) (s .sound) (s .tables);
     told = offer-told s p a;
     orderly = offer-orderly s p a;

@@ -18,27 +18,27 @@ use Rattle.promise_offer.proofs.Passed.{Passed, message, Adds}
 use Rattle.promise_offer.proofs.Kept.{offer-settled, offer-sent}
 use Rattle.promise_offer.proofs.Time.{accepts}
 
-module _ {w : Store} {all all′ : Accepted} (s : Seen w all) {c packets : ℕ} (p : Passed w c packets)
-    (a : Adds w c packets all all′) where
-  each : (x : ℕ) → (trafficOf w all′ x ≡ trafficOf w all x) ⊎ Offers (planOf w) (trafficOf w all) (trafficOf w all′) (clockOf w) x
-  each x = go (ℕ-discrete x c)
+module _ {w : Store} {all all′ : Accepted} (s : Seen w all) {x packets : ℕ} (p : Passed w x packets)
+    (a : Adds w x packets all all′) where
+  each : (y : ℕ) → (trafficOf w all′ y ≡ trafficOf w all y) ⊎ Offers (planOf w) (trafficOf w all) (trafficOf w all′) (clockOf w) y
+  each y = go (ℕ-discrete y x)
     where
-      go : Dec (x ≡ c)
-          → (trafficOf w all′ x ≡ trafficOf w all x) ⊎ Offers (planOf w) (trafficOf w all) (trafficOf w all′) (clockOf w) x
+      go : Dec (y ≡ x)
+          → (trafficOf w all′ y ≡ trafficOf w all y) ⊎ Offers (planOf w) (trafficOf w all) (trafficOf w all′) (clockOf w) y
       go (yes e) = rw e
-          (inr (record { message = message w c packets; accepts = accepts (s .told c (p .known)) p; now = rw (a .new) }))
-      go (no e) = inl (rw (a .same x e))
+          (inr (record { message = message w x packets; accepts = accepts (s .told x (p .known)) p; now = rw (a .new) }))
+      go (no e) = inl (rw (a .same y e))
 
   -- nothing is sent
   heads : (k : Key) → Inside (planOf w) k
-      → head (planOf w) (trafficOf (offered w c packets) all′) k ≡ head (planOf w) (trafficOf w all′) k
+      → head (planOf w) (trafficOf (offered w x packets) all′) k ≡ head (planOf w) (trafficOf w all′) k
   heads k i = let h : _ = inside-is w k i in rw (offer-sent (s .sound) p (k .channel) (k .place) (h .0) (h .1))
 
-  pub offer-steady : Steady w all → Steady (offered w c packets) all′
+  pub offer-steady : Steady w all → Steady (offered w x packets) all′
   offer-steady on =
       let kept : OnLinks (planOf w) (trafficOf w all′) (clockOf w) =
       offers-kept (planOf w) (planned (s .sound) (s .tables)) (trafficOf w all) (counted s) (clockOf w) on
       (trafficOf w all′) each in
-      rw (offered-clock w c packets)
-      (links-kept (offer-settled (s .sound) p) (s .sound) (trafficOf w all′) (trafficOf (offered w c packets) all′) heads
+      rw (offered-clock w x packets)
+      (links-kept (offer-settled (s .sound) p) (s .sound) (trafficOf w all′) (trafficOf (offered w x packets) all′) heads
       (clockOf w) kept)

@@ -16,39 +16,39 @@ use Rattle.promise_view.proofs.Counted.{accepted-count}
 use Rattle.offer_rules.specs.Offer.{timeAfter, offerTime}
 use Rattle.promise_offer.proofs.Passed.{Passed, message}
 
-after-least : (w : Store) (c n : ℕ) → clockOf w ≤ timeAfter w c n
-after-least w c zero = omega arith
-after-least w c (suc n) = omega arith
+after-least : (w : Store) (x n : ℕ) → clockOf w ≤ timeAfter w x n
+after-least w x zero = omega arith
+after-least w x (suc n) = omega arith
 
 -- "logical time − present slot is at most (B − 1) × p"
-pub time-most : {w : Store} {c packets : ℕ} → Passed w c packets → offerTime w c ≤ clockOf w + (bOf w c - 1) * pOf w c
-time-most {w} {c} p = omega (arith, leb-true (offerTime w c - clockOf w) ((bOf w c - 1) * pOf w c) (p .burst))
+pub time-most : {w : Store} {x packets : ℕ} → Passed w x packets → offerTime w x ≤ clockOf w + (bOf w x - 1) * pOf w x
+time-most {w} {x} p = omega (arith, leb-true (offerTime w x - clockOf w) ((bOf w x - 1) * pOf w x) (p .burst))
 
-pub time-present : (w : Store) (c : ℕ) → clockOf w ≤ offerTime w c
-time-present w c = after-least w c (messagesOf w c)
+pub time-present : (w : Store) (x : ℕ) → clockOf w ≤ offerTime w x
+time-present w x = after-least w x (messagesOf w x)
 
-module _ {w : Store} {c : ℕ} {ms : List Message} (t : Told w c ms) where
-  pub offer-time-first : length ms ≡ 0 → offerTime w c ≡ clockOf w
-  offer-time-first e = let none : messagesOf w c ≡ 0 = t .count ∙ e in rw none
+module _ {w : Store} {x : ℕ} {ms : List Message} (t : Told w x ms) where
+  pub offer-time-first : length ms ≡ 0 → offerTime w x ≡ clockOf w
+  offer-time-first e = let none : messagesOf w x ≡ 0 = t .count ∙ e in rw none
 
-  pub offer-time-next : (n : ℕ) → length ms ≡ suc n → offerTime w c ≡ max (clockOf w) (timeAt ms n + pOf w c)
+  pub offer-time-next : (n : ℕ) → length ms ≡ suc n → offerTime w x ≡ max (clockOf w) (timeAt ms n + pOf w x)
   offer-time-next n e =
-      let some : messagesOf w c ≡ suc n = t .count ∙ e in
+      let some : messagesOf w x ≡ suc n = t .count ∙ e in
       rw (some, t .time n (omega arith) (omega arith))
 
 -- no sooner than p after the last
-time-soonest : (w : Store) (c : ℕ) (ms : List Message) → Told w c ms → soonest (pOf w c) 0 ms ≤ offerTime w c
+time-soonest : (w : Store) (x : ℕ) (ms : List Message) → Told w x ms → soonest (pOf w x) 0 ms ≤ offerTime w x
 unfolding soonest
-time-soonest w c [] t = omega arith
-time-soonest w c (m ∷ ms) t =
-    omega (arith, soonest-last (pOf w c) (m ∷ ms) (length ms) refl, offer-time-next t (length ms) refl)
+time-soonest w x [] t = omega arith
+time-soonest w x (m ∷ ms) t =
+    omega (arith, soonest-last (pOf w x) (m ∷ ms) (length ms) refl, offer-time-next t (length ms) refl)
 
-pub accepts : {w : Store} {c packets : ℕ} {ms : List Message} → Told w c ms → Passed w c packets
-    → Accepts (channelOf w c) (courseOf w ms c) (clockOf w) (message w c packets)
-accepts {w} {c} {packets} {ms} t p = record {
-  present = time-present w c;
+pub accepts : {w : Store} {x packets : ℕ} {ms : List Message} → Told w x ms → Passed w x packets
+    → Accepts (channelOf w x) (courseOf w ms x) (clockOf w) (message w x packets)
+accepts {w} {x} {packets} {ms} t p = record {
+  present = time-present w x;
   next = record {
-    later = time-soonest w c ms t;
+    later = time-soonest w x ms t;
     some = omega (arith, accepted-count t, p .least);
     most = omega (arith, accepted-count t, p .most);
   };

@@ -27,63 +27,63 @@ use Rattle.promise_offer.proofs.Kept.{offer-settled}
 use Rattle.promise_offer.proofs.Time.{accepts}
 
 -- the channel of the offer
-module _ {w : Store} {c : ℕ} {ms : List Message} (t : Told w c ms) (sound : Sound w) (h : c < mostChannels) (packets : ℕ) where
+module _ {w : Store} {x : ℕ} {ms : List Message} (t : Told w x ms) (sound : Sound w) (h : x < mostChannels) (packets : ℕ) where
   abbrev later : Store
-  later = offered w c packets
+  later = offered w x packets
 
   abbrev more : List Message
-  more = ms ++ (message w c packets ∷ [])
+  more = ms ++ (message w x packets ∷ [])
 
   count : length more ≡ suc (length ms)
-  count = length-more ms (message w c packets)
+  count = length-more ms (message w x packets)
 
-  number : suc (length ms) ≡ messagesOf w c + 1
+  number : suc (length ms) ≡ messagesOf w x + 1
   number = omega (arith, t .count)
 
-  time-told : (n : ℕ) → n < length more → length more ≤ n + ring → timeOf later c (suc n) ≡ timeAt more n
+  time-told : (n : ℕ) → n < length more → length more ≤ n + ring → timeOf later x (suc n) ≡ timeAt more n
   time-told n i l =
       below n (length ms) (omega (arith, count))
-      (λ a. time-kept w c packets (suc n) (omega (arith, t .count)) (omega (arith, t .count, count))
-      ∙ (t .time n a (omega (arith, count)) ∙ sym (time-old ms (message w c packets) n a)))
-      (λ a. rw (a, time-new ms (message w c packets), number) (offered-time w c packets h (sound .long)))
+      (λ a. time-kept w x packets (suc n) (omega (arith, t .count)) (omega (arith, t .count, count))
+      ∙ (t .time n a (omega (arith, count)) ∙ sym (time-old ms (message w x packets) n a)))
+      (λ a. rw (a, time-new ms (message w x packets), number) (offered-time w x packets h (sound .long)))
 
-  end-told : (n : ℕ) → n ≤ length more → length more < n + ring → endOf later c n ≡ endAfter more n
+  end-told : (n : ℕ) → n ≤ length more → length more < n + ring → endOf later x n ≡ endAfter more n
   end-told n i l =
       below n (suc (length ms)) (omega (arith, count))
-      (λ a. end-kept w c packets n (omega (arith, t .count)) (omega (arith, t .count, count))
-      ∙ (t .end n (omega arith) (omega (arith, count)) ∙ sym (end-old ms (message w c packets) n (omega arith))))
-      (λ a. rw (a, end-new ms (message w c packets), number) (offered-end w c packets h (sound .long)))
+      (λ a. end-kept w x packets n (omega (arith, t .count)) (omega (arith, t .count, count))
+      ∙ (t .end n (omega arith) (omega (arith, count)) ∙ sym (end-old ms (message w x packets) n (omega arith))))
+      (λ a. rw (a, end-new ms (message w x packets), number) (offered-end w x packets h (sound .long)))
 
-  own-told : Told later c more
+  own-told : Told later x more
   own-told = record {
-    count = offered-messages w c packets h (sound .long) ∙ omega (arith, number, count);
+    count = offered-messages w x packets h (sound .long) ∙ omega (arith, number, count);
     time = time-told;
     end = end-told;
   }
 
-pub more-orderly : {w : Store} {c packets : ℕ} {ms : List Message} → Orderly (cOf w c) (pOf w c) 0 0 ms → Told w c ms
-    → Passed w c packets → Orderly (cOf w c) (pOf w c) 0 0 (ms ++ (message w c packets ∷ []))
-more-orderly {w} {c} {packets} {ms} o t p =
-    orderly-more (cOf w c) (pOf w c) 0 0 ms (message w c packets) o (accepts t p .next)
+pub more-orderly : {w : Store} {x packets : ℕ} {ms : List Message} → Orderly (cOf w x) (pOf w x) 0 0 ms → Told w x ms
+    → Passed w x packets → Orderly (cOf w x) (pOf w x) 0 0 (ms ++ (message w x packets ∷ []))
+more-orderly {w} {x} {packets} {ms} o t p =
+    orderly-more (cOf w x) (pOf w x) 0 0 ms (message w x packets) o (accepts t p .next)
 
-module _ {w : Store} {all all′ : Accepted} (s : Seen w all) {c packets : ℕ} (p : Passed w c packets)
-    (a : Adds w c packets all all′) where
-  pub offer-told : (x : ℕ) → IsChannel (offered w c packets) x → Told (offered w c packets) x (all′ x)
-  offer-told x h =
-      let i : IsChannel w x = rw (channels-same (offer-settled (s .sound) p)) at h in
-      on-channels a (Told (offered w c packets))
-      (own-told (s .told c (p .known)) (s .sound) (few-channels (s .sound) c (p .known)) packets) x
-      (λ e. told-record (offered-other w c packets x e) (s .told x i))
+module _ {w : Store} {all all′ : Accepted} (s : Seen w all) {x packets : ℕ} (p : Passed w x packets)
+    (a : Adds w x packets all all′) where
+  pub offer-told : (u : ℕ) → IsChannel (offered w x packets) u → Told (offered w x packets) u (all′ u)
+  offer-told u h =
+      let i : IsChannel w u = rw (channels-same (offer-settled (s .sound) p)) at h in
+      on-channels a (Told (offered w x packets))
+      (own-told (s .told x (p .known)) (s .sound) (few-channels (s .sound) x (p .known)) packets) u
+      (λ e. told-record (offered-other w x packets u e) (s .told u i))
 
-  still-none : (x : ℕ) → channelsOf w ≤ x → all′ x ≡ []
-  still-none x h = a .same x (λ e. omega (arith, p .known)) ∙ s .none x h
+  still-none : (u : ℕ) → channelsOf w ≤ u → all′ u ≡ []
+  still-none u h = a .same u (λ e. omega (arith, p .known)) ∙ s .none u h
 
-  pub offer-none : (x : ℕ) → channelsOf (offered w c packets) ≤ x → all′ x ≡ []
-  offer-none x h = still-none x (rw (channels-same (offer-settled (s .sound) p)) at h)
+  pub offer-none : (u : ℕ) → channelsOf (offered w x packets) ≤ u → all′ u ≡ []
+  offer-none u h = still-none u (rw (channels-same (offer-settled (s .sound) p)) at h)
 
-  pub offer-orderly : (x : ℕ) → Orderly (cOf (offered w c packets) x) (pOf (offered w c packets) x) 0 0 (all′ x)
+  pub offer-orderly : (u : ℕ) → Orderly (cOf (offered w x packets) u) (pOf (offered w x packets) u) 0 0 (all′ u)
   offer-orderly = orderly-same (settled-numbers (s .sound) (offer-settled (s .sound) p)) old still-none
     where
-      old : (x : ℕ) → Orderly (cOf w x) (pOf w x) 0 0 (all′ x)
-      old x = on-channels a (λ y ms. Orderly (cOf w y) (pOf w y) 0 0 ms)
-          (more-orderly (s .orderly c) (s .told c (p .known)) p) x (λ e. s .orderly x)
+      old : (u : ℕ) → Orderly (cOf w u) (pOf w u) 0 0 (all′ u)
+      old u = on-channels a (λ y ms. Orderly (cOf w y) (pOf w y) 0 0 ms)
+          (more-orderly (s .orderly x) (s .told x (p .known)) p) u (λ e. s .orderly u)

@@ -32,7 +32,7 @@ module _ {w : Store} {all : AllAccepted} (s : Seen w all) (q : Request) (n : ℕ
   kept : Opened w w′ q (delaysOf w q)
   kept = open-kept q n a
 
-  numbers : (c : ℕ) → IsChannel w c → SameNumbers w w′ c
+  numbers : (x : ℕ) → IsChannel w x → SameNumbers w w′ x
   numbers = open-numbers q n a
 
   later : clockOf w ≤ clockOf w′
@@ -46,21 +46,21 @@ module _ {w : Store} {all : AllAccepted} (s : Seen w all) (q : Request) (n : ℕ
       omega arith
 
   pub open-in-burst : InBurst w all → InBurst w′ all
-  open-in-burst b c m =
-      each-channel kept (λ c. InBurstAt w′ c m (all c)) (λ c h. burst-same (numbers c h) later m (all c) (b c m h))
-      (λ i. absurd (no-message m i)) c
+  open-in-burst b x m =
+      each-channel kept (λ x. InBurstAt w′ x m (all x)) (λ x h. burst-same (numbers x h) later m (all x) (b x m h))
+      (λ i. absurd (no-message m i)) x
 
   pub open-near : Near w all → Near w′ all
-  open-near near c j m =
-      each-channel kept (λ c. NearAt w′ c j m (all c)) old (λ i k. absurd (no-message m k)) c
+  open-near near x j m =
+      each-channel kept (λ x. NearAt w′ x j m (all x)) old (λ i k. absurd (no-message m k)) x
     where
-      old : (c : ℕ) → IsChannel w c → NearAt w′ c j m (all c)
-      old c h = near-same (numbers c h) later (s .sound) (network-kept kept) h j m (all c)
-          (λ i. sent-same (record-kept kept c h) j (few-places (s .sound) c j h i)) (near c j m h)
+      old : (x : ℕ) → IsChannel w x → NearAt w′ x j m (all x)
+      old x h = near-same (numbers x h) later (s .sound) (network-kept kept) h j m (all x)
+          (λ i. sent-same (record-kept kept x h) j (few-places (s .sound) x j h i)) (near x j m h)
 
   pub open-within : Within w → Within w′
   open-within within =
-      each-channel kept (WithinAt w′) (λ c h. within-same (numbers c h) (within c h)) new
+      each-channel kept (WithinAt w′) (λ x h. within-same (numbers x h) (within x h)) new
     where
       new : WithinAt w′ (channelsOf w)
       new =

@@ -20,7 +20,7 @@ use Rattle.promise_view.proofs.Keys.{keys-are, no-keys}
 
 -- nothing was accepted
 abbrev pub none : Accepted
-none c = []
+none x = []
 
 module _ (w : Store) (links : List ℕ) (e : setUpAnswer w links ≡ Ready) where
   abbrev w₀ : Store
@@ -43,9 +43,9 @@ module _ (w : Store) (links : List ℕ) (e : setUpAnswer w links ≡ Ready) wher
   fresh-seen = record {
     sound = sound;
     tables = table;
-    told = λ c h. absurd (omega (arith, fresh-channels));
-    orderly = λ c. tt;
-    none = λ c h. refl;
+    told = λ x h. absurd (omega (arith, fresh-channels));
+    orderly = λ x. tt;
+    none = λ x h. refl;
   }
 
   keys : (l : ℕ) → keysOf w₀ l ≡ []
@@ -60,10 +60,10 @@ module _ (w : Store) (links : List ℕ) (e : setUpAnswer w links ≡ Ready) wher
   fresh-steady = set-up (planOf w₀) (trafficOf w₀ none) (clockOf w₀) keys
 
   pub fresh-near : Near w₀ none
-  fresh-near c j n h = absurd (omega (arith, fresh-channels))
+  fresh-near x j n h = absurd (omega (arith, fresh-channels))
 
   pub fresh-in-burst : InBurst w₀ none
-  fresh-in-burst c n h = absurd (omega (arith, fresh-channels))
+  fresh-in-burst x n h = absurd (omega (arith, fresh-channels))
 
   pub fresh-within : Within w₀
-  fresh-within c h = absurd (omega (arith, fresh-channels))
+  fresh-within x h = absurd (omega (arith, fresh-channels))

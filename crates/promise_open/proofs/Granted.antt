@@ -21,7 +21,7 @@ pub record Granted (w : Store) (q : Request) (n : ℕ) : Type 0 where
   pub number : n ≡ channelsOf w
   pub channels : channelsOf (openStore w q) ≡ suc n
   pub network : SameNetwork w (openStore w q)
-  pub old : (c : ℕ) → IsChannel w c → SameRecord w (openStore w q) c
+  pub old : (x : ℕ) → IsChannel w x → SameRecord w (openStore w q) x
   pub c-is : cOf (openStore w q) n ≡ q .c
   pub p-is : pOf (openStore w q) n ≡ q .p
   pub d-is : dOf (openStore w q) n ≡ q .d
@@ -38,7 +38,7 @@ module _ {w : Store} (q : Request) (n : ℕ) (a : openOutcome w q ≡ Accepted n
   pub open-kept : Opened w (openStore w q) q (delaysOf w q)
   open-kept = record { early = accepted-early w q n a; after = accepted-after w q n a }
 
-  pub open-numbers : (c : ℕ) → IsChannel w c → SameNumbers w (openStore w q) c
+  pub open-numbers : (x : ℕ) → IsChannel w x → SameNumbers w (openStore w q) x
   open-numbers = kept-numbers (was-sound open-kept) (open-keeps open-kept)
 
   pub granted : Granted w q n

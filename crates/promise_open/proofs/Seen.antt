@@ -23,9 +23,9 @@ use Rattle.promise_view.proofs.Seen.{Seen}
 use Rattle.promise_view.proofs.Same.{told-record, orderly-same}
 use Rattle.promise_open.proofs.Granted.{open-kept, open-numbers}
 
-told-none : (w : Store) (c : ℕ) → messagesOf w c ≡ 0 → endOf w c 0 ≡ 0 → Told w c []
+told-none : (w : Store) (x : ℕ) → messagesOf w x ≡ 0 → endOf w x 0 ≡ 0 → Told w x []
 unfolding ended
-told-none w c m e = record {
+told-none w x m e = record {
   count = m;
   time = λ n h i. absurd (omega arith);
   end = λ n h i. let z : n ≡ 0 = omega arith in rw (z, e);
@@ -46,10 +46,10 @@ module _ {w : Store} {all : AllAccepted} (s : Seen w all) (q : Request) (n : ℕ
       (delay-within w q (kept .early) (late .responds))
       (s .tables)
 
-  told : (c : ℕ) → IsChannel w′ c → Told w′ c (all c)
+  told : (x : ℕ) → IsChannel w′ x → Told w′ x (all x)
   told =
-      each-channel kept (λ c. Told w′ c (all c))
-      (λ c h. told-record (record-kept kept c h) (s .told c h))
+      each-channel kept (λ x. Told w′ x (all x))
+      (λ x h. told-record (record-kept kept x h) (s .told x h))
       (rw (s .none (channelsOf w) (omega arith)) (told-none w′ (channelsOf w) (kept .after .messages-is) (kept .after .end-is)))
 
   pub open-seen : Seen w′ all
@@ -58,5 +58,5 @@ module _ {w : Store} {all : AllAccepted} (s : Seen w all) (q : Request) (n : ℕ
     tables = tables;
     told = told;
     orderly = orderly-same (open-numbers q n a) (s .orderly) (s .none);
-    none = λ c h. s .none c (omega (arith, kept .after .channels));
+    none = λ x h. s .none x (omega (arith, kept .after .channels));
   }

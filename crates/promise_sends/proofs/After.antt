@@ -36,39 +36,39 @@ names-append f log more = ap (map nameOf) (keep-append f log more) ∙ map-appen
 
 module _ {w : Store} {all : Accepted} (s : Seen w all) where
   -- the packet that goes next is the channel's first that was not sent there
-  module _ (c j : ℕ) (h : IsChannel w c) (i : j < hopsOf w c) where
+  module _ (x j : ℕ) (h : IsChannel w x) (i : j < hopsOf w x) where
     abbrev packets : List Packet
-    packets = packetsFrom 0 0 (all c)
+    packets = packetsFrom 0 0 (all x)
 
-    one-more : leaves w c j ≡ true
-        → take (sentOf w c j) packets ++ (nameOf (sendAt w (routeOf w c j) c j) ∷ []) ≡ take (sentOf w c j + 1) packets
+    one-more : leaves w x j ≡ true
+        → take (sentOf w x j) packets ++ (nameOf (sendAt w (routeOf w x j) x j) ∷ []) ≡ take (sentOf w x j + 1) packets
     one-more e =
-        let x = next-is (s .sound .channel c h) (s .told c h) j i (leaving-held (s .sound) c j h i e) in
-        let message : messageOf w c j - 1 ≡ x .n = omega (arith, x .number) in
-        rw (x .packet, message, add-one (sentOf w c j))
-        (sym (packet-next (cOf w c) (pOf w c) (all c) (s .orderly c) (x .n) (sentOf w c j) (x .inside) (x .starts) (x .ends)))
+        let y = next-is (s .sound .channel x h) (s .told x h) j i (leaving-held (s .sound) x j h i e) in
+        let message : messageOf w x j - 1 ≡ y .n = omega (arith, y .number) in
+        rw (y .packet, message, add-one (sentOf w x j))
+        (sym (packet-next (cOf w x) (pOf w x) (all x) (s .orderly x) (y .n) (sentOf w x j) (y .inside) (y .starts) (y .ends)))
 
     names-after : {log : List Send} → Logged w all log
-        → map nameOf (keep (isOn c (routeOf w c j)) (log ++ slotSends w)) ≡ take (sentOf (moved w) c j) packets
+        → map nameOf (keep (isOn x (routeOf w x j)) (log ++ slotSends w)) ≡ take (sentOf (moved w) x j) packets
     names-after {log} known =
-        names-append (isOn c (routeOf w c j)) log (slotSends w)
-        ∙ rw (known .names c j h i, sends-on (s .sound) c j h i) (go (leaves w c j) refl)
+        names-append (isOn x (routeOf w x j)) log (slotSends w)
+        ∙ rw (known .names x j h i, sends-on (s .sound) x j h i) (go (leaves w x j) refl)
       where
-        go : (b : Bool) → leaves w c j ≡ b
-            → take (sentOf w c j) packets ++ map nameOf (elim b [ true ↦ sendAt w (routeOf w c j) c j ∷ [] | false ↦ [] ])
-            ≡ take (sentOf (moved w) c j) packets
-        go true e = rw (sent-goes (s .sound) c j h i e) (one-more e)
-        go false e = rw (sent-stays (s .sound) c j h i e) (append-nil (take (sentOf w c j) packets))
+        go : (b : Bool) → leaves w x j ≡ b
+            → take (sentOf w x j) packets ++ map nameOf (elim b [ true ↦ sendAt w (routeOf w x j) x j ∷ [] | false ↦ [] ])
+            ≡ take (sentOf (moved w) x j) packets
+        go true e = rw (sent-goes (s .sound) x j h i e) (one-more e)
+        go false e = rw (sent-stays (s .sound) x j h i e) (append-nil (take (sentOf w x j) packets))
 
-  numbers : (c : ℕ) → IsChannel w c → SameNumbers w (moved w) c
+  numbers : (x : ℕ) → IsChannel w x → SameNumbers w (moved w) x
   numbers = settled-numbers (s .sound) (moved-settled (s .sound))
 
   pub slot-logged : Steady w all → {log : List Send} → Logged w all log → Logged (moved w) all (log ++ slotSends w)
   slot-logged on {log} known = record {
-    names = λ c j h i.
-        let old : IsChannel w c = rw (channels-same (moved-settled (s .sound))) at h in
-        let place : j < hopsOf w c = rw (numbers c old .hops-are) at i in
-        rw (numbers c old .route-is j place) (names-after c j old place known);
-    timely = timely-kept numbers all all (λ c h. as-long (all c) (all c) refl) (log ++ slotSends w)
+    names = λ x j h i.
+        let old : IsChannel w x = rw (channels-same (moved-settled (s .sound))) at h in
+        let place : j < hopsOf w x = rw (numbers x old .hops-are) at i in
+        rw (numbers x old .route-is j place) (names-after x j old place known);
+    timely = timely-kept numbers all all (λ x h. as-long (all x) (all x) refl) (log ++ slotSends w)
         (every-append (InTime w all) log (slotSends w) (known .timely) (slot-timely s on));
   }

@@ -24,61 +24,61 @@ use Rattle.promise_sends.specs.Sends.{isOn, isMessage, nameOf}
 use Rattle.promise_sends.specs.Log.{InTime, Logged}
 
 -- what was sent of message n, on the link at place j of its channel's route, was sent before its deadline there
-module _ {w : Store} {all : Accepted} {log : List Send} (known : Logged w all log) (c j n : ℕ) (h : j < hopsOf w c) where
+module _ {w : Store} {all : Accepted} {log : List Send} (known : Logged w all log) (x j n : ℕ) (h : j < hopsOf w x) where
   abbrev Early : (n : ℕ) → Send → Type 0
-  Early n x = x .slot < timeAt (all c) n + sumTo (delayOf w c) (suc j)
+  Early n u = u .slot < timeAt (all x) n + sumTo (delayOf w x) (suc j)
 
-  early-on : (x : Send) → isOn c (routeOf w c j) x ≡ true → InTime w all x → Early (x .message) x
-  early-on x e t =
-      let a = and-eq-true-iff (eqb (x .channel) c) (eqb (x .link) (routeOf w c j)) .0 e in
-      let channel : x .channel ≡ c = eqb-true (x .channel) c (a .0) in
-      let link : x .link ≡ routeOf w c j = eqb-true (x .link) (routeOf w c j) (a .1) in
+  early-on : (u : Send) → isOn x (routeOf w x j) u ≡ true → InTime w all u → Early (u .message) u
+  early-on u e t =
+      let a = and-eq-true-iff (eqb (u .channel) x) (eqb (u .link) (routeOf w x j)) .0 e in
+      let channel : u .channel ≡ x = eqb-true (u .channel) x (a .0) in
+      let link : u .link ≡ routeOf w x j = eqb-true (u .link) (routeOf w x j) (a .1) in
       (rw channel at (t .due)) j h (sym link)
 
-  pub sent-early : Every (λ x. x .slot < timeAt (all c) n + sumTo (delayOf w c) (suc j))
-      (keep (isMessage n) (keep (isOn c (routeOf w c j)) log))
+  pub sent-early : Every (λ u. u .slot < timeAt (all x) n + sumTo (delayOf w x) (suc j))
+      (keep (isMessage n) (keep (isOn x (routeOf w x j)) log))
   sent-early =
-      keep-each (λ x. Early (x .message) x) (Early n) (isMessage n) (keep (isOn c (routeOf w c j)) log)
-      (λ x e t. rw (eqb-true (x .message) n e) at t)
-      (keep-each (InTime w all) (λ x. Early (x .message) x) (isOn c (routeOf w c j)) log early-on (known .timely))
+      keep-each (λ u. Early (u .message) u) (Early n) (isMessage n) (keep (isOn x (routeOf w x j)) log)
+      (λ u e t. rw (eqb-true (u .message) n e) at t)
+      (keep-each (InTime w all) (λ u. Early (u .message) u) (isOn x (routeOf w x j)) log early-on (known .timely))
 
 module _ {w : Store} {all : Accepted} (s : Seen w all) (on : Steady w all) (within : Within w) {log : List Send}
-    (known : Logged w all log) (c n : ℕ) (h : IsChannel w c) (told : n < length (all c)) where
+    (known : Logged w all log) (x n : ℕ) (h : IsChannel w x) (told : n < length (all x)) where
   -- the last link of the route
   abbrev j : ℕ
-  j = hopsOf w c - 1
+  j = hopsOf w x - 1
 
   abbrev last : ℕ
-  last = routeOf w c j
+  last = routeOf w x j
 
-  inside : j < hopsOf w c
-  inside = omega (arith, s .sound .channel c h .hops-least)
+  inside : j < hopsOf w x
+  inside = omega (arith, s .sound .channel x h .hops-least)
 
   -- the delays up to it
-  delays : sumTo (delayOf w c) (suc j) ≤ dOf w c
+  delays : sumTo (delayOf w x) (suc j) ≤ dOf w x
   delays =
-      let all-places : suc j ≡ hopsOf w c = omega (arith, inside) in
-      rw all-places (within c h)
+      let all-places : suc j ≡ hopsOf w x = omega (arith, inside) in
+      rw all-places (within x h)
 
   -- what was sent there of message n
   abbrev sends : List Send
-  sends = keep (isMessage n) (keep (isOn c last) log)
+  sends = keep (isMessage n) (keep (isOn x last) log)
 
-  whole : timeAt (all c) n + dOf w c ≤ clockOf w
-      → map nameOf sends ≡ packetsOf n (endAfter (all c) (suc n) - endAfter (all c) n)
+  whole : timeAt (all x) n + dOf w x ≤ clockOf w
+      → map nameOf sends ≡ packetsOf n (endAfter (all x) (suc n) - endAfter (all x) n)
   whole past =
-      let sent : endAfter (all c) (suc n) ≤ sentOf w c j =
-      in-time s (clockOf w) on c j n h inside told (omega (arith, delays)) in
-      sym (keep-map (isOf n) nameOf (keep (isOn c last) log))
-      ∙ (ap (keep (isOf n)) (known .names c j h inside)
-      ∙ packets-whole (cOf w c) (pOf w c) (all c) (s .orderly c) n (sentOf w c j) told sent)
+      let sent : endAfter (all x) (suc n) ≤ sentOf w x j =
+      in-time s (clockOf w) on x j n h inside told (omega (arith, delays)) in
+      sym (keep-map (isOf n) nameOf (keep (isOn x last) log))
+      ∙ (ap (keep (isOf n)) (known .names x j h inside)
+      ∙ packets-whole (cOf w x) (pOf w x) (all x) (s .orderly x) n (sentOf w x j) told sent)
 
-  early : Every (λ x. x .slot < timeAt (all c) n + dOf w c) sends
-  early = every-imp _ _ sends (λ x e. omega (arith, e, delays)) (sent-early known c j n inside)
+  early : Every (λ u. u .slot < timeAt (all x) n + dOf w x) sends
+  early = every-imp _ _ sends (λ u e. omega (arith, e, delays)) (sent-early known x j n inside)
 
-  pub arrived : timeAt (all c) n + dOf w c ≤ clockOf w
-      → (map nameOf (keep (isMessage n) (keep (isOn c (routeOf w c (hopsOf w c - 1))) log))
-      ≡ packetsOf n (endAfter (all c) (suc n) - endAfter (all c) n))
-      × Every (λ x. x .slot < timeAt (all c) n + dOf w c)
-      (keep (isMessage n) (keep (isOn c (routeOf w c (hopsOf w c - 1))) log))
+  pub arrived : timeAt (all x) n + dOf w x ≤ clockOf w
+      → (map nameOf (keep (isMessage n) (keep (isOn x (routeOf w x (hopsOf w x - 1))) log))
+      ≡ packetsOf n (endAfter (all x) (suc n) - endAfter (all x) n))
+      × Every (λ u. u .slot < timeAt (all x) n + dOf w x)
+      (keep (isMessage n) (keep (isOn x (routeOf w x (hopsOf w x - 1))) log))
   arrived past = (whole past, early)

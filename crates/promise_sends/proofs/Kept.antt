@@ -17,26 +17,26 @@ use Rattle.promise_view.proofs.Same.{delays-same}
 use Rattle.promise_sends.specs.Sends.{isOn, nameOf}
 use Rattle.promise_sends.specs.Log.{InTime, Logged}
 
-module _ {w w′ : Store} (same : (c : ℕ) → IsChannel w c → SameNumbers w w′ c) (all all′ : Accepted) where
-  in-time-kept : ((c : ℕ) → IsChannel w c → Longer (all c) (all′ c)) → (x : Send) → InTime w all x → InTime w′ all′ x
-  in-time-kept longer x t =
-      let c : ℕ = x .channel in
-      let numbers : SameNumbers w w′ c = same c (t .known) in
+module _ {w w′ : Store} (same : (x : ℕ) → IsChannel w x → SameNumbers w w′ x) (all all′ : Accepted) where
+  in-time-kept : ((x : ℕ) → IsChannel w x → Longer (all x) (all′ x)) → (s : Send) → InTime w all s → InTime w′ all′ s
+  in-time-kept longer s t =
+      let x : ℕ = s .channel in
+      let numbers : SameNumbers w w′ x = same x (t .known) in
       record {
         known = numbers .there;
-        told = omega (arith, t .told, longer c (t .known) .count);
+        told = omega (arith, t .told, longer x (t .known) .count);
         due = λ j h e.
-            let i : j < hopsOf w c = rw (numbers .hops-are) at h in
-            rw (longer c (t .known) .time (x .message) (t .told), delays-same numbers (suc j) i)
+            let i : j < hopsOf w x = rw (numbers .hops-are) at h in
+            rw (longer x (t .known) .time (s .message) (t .told), delays-same numbers (suc j) i)
             (t .due j i (sym (numbers .route-is j i) ∙ e));
       }
 
-  pub timely-kept : ((c : ℕ) → IsChannel w c → Longer (all c) (all′ c)) → (log : List Send)
+  pub timely-kept : ((x : ℕ) → IsChannel w x → Longer (all x) (all′ x)) → (log : List Send)
       → Every (InTime w all) log → Every (InTime w′ all′) log
   timely-kept longer log = every-imp (InTime w all) (InTime w′ all′) log (in-time-kept longer)
 
   -- the packets sent at a place are as before
-  pub names-kept : {log : List Send} → Logged w all log → (c j : ℕ) → IsChannel w c → j < hopsOf w c
-      → take (sentOf w′ c j) (packetsFrom 0 0 (all′ c)) ≡ take (sentOf w c j) (packetsFrom 0 0 (all c))
-      → map nameOf (keep (isOn c (routeOf w′ c j)) log) ≡ take (sentOf w′ c j) (packetsFrom 0 0 (all′ c))
-  names-kept known c j h i e = rw (same c h .route-is j i) (known .names c j h i ∙ sym e)
+  pub names-kept : {log : List Send} → Logged w all log → (x j : ℕ) → IsChannel w x → j < hopsOf w x
+      → take (sentOf w′ x j) (packetsFrom 0 0 (all′ x)) ≡ take (sentOf w x j) (packetsFrom 0 0 (all x))
+      → map nameOf (keep (isOn x (routeOf w′ x j)) log) ≡ take (sentOf w′ x j) (packetsFrom 0 0 (all′ x))
+  names-kept known x j h i e = rw (same x h .route-is j i) (known .names x j h i ∙ sym e)

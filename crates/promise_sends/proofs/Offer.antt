@@ -23,42 +23,42 @@ use Rattle.promise_view.proofs.Counted.{sent-most}
 use Rattle.promise_sends.specs.Log.{Logged}
 use Rattle.promise_sends.proofs.Kept.{timely-kept, names-kept}
 
-module _ {w : Store} {all all′ : Accepted} (s : Seen w all) (c packets : ℕ) (h : IsChannel w c) (m : Message)
-    (new : all′ c ≡ all c ++ (m ∷ [])) (others : (x : ℕ) → (x ≡ c → ⊥) → all′ x ≡ all x) where
+module _ {w : Store} {all all′ : Accepted} (s : Seen w all) (x packets : ℕ) (h : IsChannel w x) (m : Message)
+    (new : all′ x ≡ all x ++ (m ∷ [])) (others : (y : ℕ) → (y ≡ x → ⊥) → all′ y ≡ all y) where
   abbrev later : Store
-  later = offered w c packets
+  later = offered w x packets
 
   settled : Settled w later
-  settled = offered-settled w c packets (few-channels (s .sound) c h)
+  settled = offered-settled w x packets (few-channels (s .sound) x h)
 
-  numbers : (x : ℕ) → IsChannel w x → SameNumbers w later x
+  numbers : (y : ℕ) → IsChannel w y → SameNumbers w later y
   numbers = settled-numbers (s .sound) settled
 
-  longer : (x : ℕ) → IsChannel w x → Longer (all x) (all′ x)
-  longer x g = go (ℕ-discrete x c)
+  longer : (y : ℕ) → IsChannel w y → Longer (all y) (all′ y)
+  longer y g = go (ℕ-discrete y x)
     where
-      go : Dec (x ≡ c) → Longer (all x) (all′ x)
-      go (yes e) = rw e (one-longer (all c) (all′ c) m new)
-      go (no e) = as-long (all x) (all′ x) (others x e)
+      go : Dec (y ≡ x) → Longer (all y) (all′ y)
+      go (yes e) = rw e (one-longer (all x) (all′ x) m new)
+      go (no e) = as-long (all y) (all′ y) (others y e)
 
-  same-packets : (x j : ℕ) → IsChannel w x → j < hopsOf w x
-      → take (sentOf later x j) (packetsFrom 0 0 (all′ x)) ≡ take (sentOf w x j) (packetsFrom 0 0 (all x))
-  same-packets x j g i = go (ℕ-discrete x c)
+  same-packets : (y j : ℕ) → IsChannel w y → j < hopsOf w y
+      → take (sentOf later y j) (packetsFrom 0 0 (all′ y)) ≡ take (sentOf w y j) (packetsFrom 0 0 (all y))
+  same-packets y j g i = go (ℕ-discrete y x)
     where
-      go : Dec (x ≡ c) → take (sentOf later x j) (packetsFrom 0 0 (all′ x)) ≡ take (sentOf w x j) (packetsFrom 0 0 (all x))
+      go : Dec (y ≡ x) → take (sentOf later y j) (packetsFrom 0 0 (all′ y)) ≡ take (sentOf w y j) (packetsFrom 0 0 (all y))
       go (yes e) =
-          let few = few-places (s .sound) x j g i in
-          let place : j < hopsOf w c = rw e at i in
-          rw (e, sent-kept w c packets j few, new)
-          (take-old (cOf w c) (pOf w c) (all c) (s .orderly c) m (sentOf w c j)
-          (sent-most (s .sound .channel c h) (s .told c h) j place))
-      go (no e) = rw (sent-same (offered-other w c packets x e) j (few-places (s .sound) x j g i), others x e)
+          let few = few-places (s .sound) y j g i in
+          let place : j < hopsOf w x = rw e at i in
+          rw (e, sent-kept w x packets j few, new)
+          (take-old (cOf w x) (pOf w x) (all x) (s .orderly x) m (sentOf w x j)
+          (sent-most (s .sound .channel x h) (s .told x h) j place))
+      go (no e) = rw (sent-same (offered-other w x packets y e) j (few-places (s .sound) y j g i), others y e)
 
-  pub offer-logged : {log : List Send} → Logged w all log → Logged (offered w c packets) all′ log
+  pub offer-logged : {log : List Send} → Logged w all log → Logged (offered w x packets) all′ log
   offer-logged {log} known = record {
-    names = λ x j g i.
-        let old : IsChannel w x = rw (channels-same settled) at g in
-        let place : j < hopsOf w x = rw (numbers x old .hops-are) at i in
-        names-kept numbers all all′ known x j old place (same-packets x j old place);
+    names = λ y j g i.
+        let old : IsChannel w y = rw (channels-same settled) at g in
+        let place : j < hopsOf w y = rw (numbers y old .hops-are) at i in
+        names-kept numbers all all′ known y j old place (same-packets y j old place);
     timely = timely-kept numbers all all′ longer log (known .timely);
   }

@@ -17,61 +17,61 @@ use Rattle.promise_queue.specs.Keep.{keep}
 use Rattle.promise_queue.proofs.Keep.{keep-yes, keep-no, keep-append}
 use Rattle.promise_sends.specs.Sends.{isOn}
 
-module _ (w : Store) (c l : ℕ) where
+module _ (w : Store) (x l : ℕ) where
   -- another link
-  from-other : (m position : ℕ) → (m ≡ l → ⊥) → keep (isOn c l) (sendFrom w m position) ≡ []
+  from-other : (m position : ℕ) → (m ≡ l → ⊥) → keep (isOn x l) (sendFrom w m position) ≡ []
   unfolding keep
   from-other m zero other = refl
   from-other m (suc k) other =
-      keep-no (isOn c l) (sendAt w m (rowChannelOf w m k) (rowPlaceOf w m k)) []
-      (and-false (eqb (rowChannelOf w m k) c) (eqb m l) (ne-eqb m l other))
+      keep-no (isOn x l) (sendAt w m (rowChannelOf w m k) (rowPlaceOf w m k)) []
+      (and-false (eqb (rowChannelOf w m k) x) (eqb m l) (ne-eqb m l other))
 
-  to-before : (n : ℕ) → n ≤ l → keep (isOn c l) (sendsTo w n) ≡ []
+  to-before : (n : ℕ) → n ≤ l → keep (isOn x l) (sendsTo w n) ≡ []
   unfolding keep sendsTo
   to-before zero h = refl
   to-before (suc n) h =
-      keep-append (isOn c l) (sendsTo w n) (sendFrom w n (pickOf w n))
+      keep-append (isOn x l) (sendsTo w n) (sendFrom w n (pickOf w n))
       ∙ rw (to-before n (omega arith), from-other n (pickOf w n) (λ e. omega arith))
 
   -- what the first n links send there is what link l sends
-  to-there : (n : ℕ) → l < n → keep (isOn c l) (sendsTo w n) ≡ keep (isOn c l) (sendFrom w l (pickOf w l))
+  to-there : (n : ℕ) → l < n → keep (isOn x l) (sendsTo w n) ≡ keep (isOn x l) (sendFrom w l (pickOf w l))
   unfolding sendsTo
   to-there zero h = absurd (omega arith)
   to-there (suc n) h =
-      keep-append (isOn c l) (sendsTo w n) (sendFrom w n (pickOf w n))
+      keep-append (isOn x l) (sendsTo w n) (sendFrom w n (pickOf w n))
       ∙ below l n h
       (λ m. rw (to-there n m, from-other n (pickOf w n) (λ e. omega arith)) (append-nil _))
       (λ e. rw (to-before n (omega arith), e))
 
   -- link l: the row picked is of the channel, or not
-  from-none : keep (isOn c l) (sendFrom w l zero) ≡ []
+  from-none : keep (isOn x l) (sendFrom w l zero) ≡ []
   unfolding keep
   from-none = refl
 
-  from-own : (j : ℕ) → keep (isOn c l) (sendAt w l c j ∷ []) ≡ sendAt w l c j ∷ []
+  from-own : (j : ℕ) → keep (isOn x l) (sendAt w l x j ∷ []) ≡ sendAt w l x j ∷ []
   unfolding keep
-  from-own j = keep-yes (isOn c l) (sendAt w l c j) [] (rw (eq-eqb c c refl, eq-eqb l l refl))
+  from-own j = keep-yes (isOn x l) (sendAt w l x j) [] (rw (eq-eqb x x refl, eq-eqb l l refl))
 
-  from-row : (k : ℕ) → isOf w l c (suc k) ≡ false → keep (isOn c l) (sendFrom w l (suc k)) ≡ []
+  from-row : (k : ℕ) → isOf w l x (suc k) ≡ false → keep (isOn x l) (sendFrom w l (suc k)) ≡ []
   unfolding keep
-  from-row k e = keep-no (isOn c l) (sendAt w l (rowChannelOf w l k) (rowPlaceOf w l k)) [] (rw e)
+  from-row k e = keep-no (isOn x l) (sendAt w l (rowChannelOf w l k) (rowPlaceOf w l k)) [] (rw e)
 
-module _ {w : Store} (s : Sound w) (c j : ℕ) (h : IsChannel w c) (i : j < hopsOf w c) where
+module _ {w : Store} (s : Sound w) (x j : ℕ) (h : IsChannel w x) (i : j < hopsOf w x) where
   abbrev l : ℕ
-  l = routeOf w c j
+  l = routeOf w x j
 
   abbrev next : Send
-  next = sendAt w l c j
+  next = sendAt w l x j
 
-  from-here : keep (isOn c l) (sendFrom w l (pickOf w l)) ≡ elim (leaves w c j) [ true ↦ next ∷ [] | false ↦ [] ]
-  from-here = go (leaves w c j) (pickOf w l) refl refl
+  from-here : keep (isOn x l) (sendFrom w l (pickOf w l)) ≡ elim (leaves w x j) [ true ↦ next ∷ [] | false ↦ [] ]
+  from-here = go (leaves w x j) (pickOf w l) refl refl
     where
-      go : (b : Bool) (p : ℕ) → leaves w c j ≡ b → pickOf w l ≡ p
-          → keep (isOn c l) (sendFrom w l (pickOf w l)) ≡ elim b [ true ↦ next ∷ [] | false ↦ [] ]
-      go true p e f = let r = row-leaving s c j h i e in rw (r .picks, r .channel, r .place) (from-own w c l j)
-      go false zero e f = rw f (from-none w c l)
-      go false (suc k) e f = rw f (from-row w c l k (rw f at e))
+      go : (b : Bool) (p : ℕ) → leaves w x j ≡ b → pickOf w l ≡ p
+          → keep (isOn x l) (sendFrom w l (pickOf w l)) ≡ elim b [ true ↦ next ∷ [] | false ↦ [] ]
+      go true p e f = let r = row-leaving s x j h i e in rw (r .picks, r .channel, r .place) (from-own w x l j)
+      go false zero e f = rw f (from-none w x l)
+      go false (suc k) e f = rw f (from-row w x l k (rw f at e))
 
-  pub sends-on : keep (isOn c (routeOf w c j)) (slotSends w)
-      ≡ elim (leaves w c j) [ true ↦ sendAt w (routeOf w c j) c j ∷ [] | false ↦ [] ]
-  sends-on = to-there w c l (linksOf w) (s .channel c h .route .known j i) ∙ from-here
+  pub sends-on : keep (isOn x (routeOf w x j)) (slotSends w)
+      ≡ elim (leaves w x j) [ true ↦ sendAt w (routeOf w x j) x j ∷ [] | false ↦ [] ]
+  sends-on = to-there w x l (linksOf w) (s .channel x h .route .known j i) ∙ from-here

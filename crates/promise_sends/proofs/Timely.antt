@@ -21,33 +21,33 @@ use Rattle.promise_sends.specs.Log.{InTime}
 module _ {w : Store} {all : Accepted} (s : Seen w all) (on : Steady w all) where
   -- the row that link l has picked
   module _ (l k : ℕ) (here : l < linksOf w) (e : pickOf w l ≡ suc k) where
-    abbrev c : ℕ
-    c = rowChannelOf w l k
+    abbrev x : ℕ
+    x = rowChannelOf w l k
 
     abbrev j : ℕ
     j = rowPlaceOf w l k
 
     -- its link stands nowhere else on the route
-    one-place : (i : ℕ) → IsChannel w c → i < hopsOf w c → routeOf w c i ≡ l → i ≡ j
+    one-place : (i : ℕ) → IsChannel w x → i < hopsOf w x → routeOf w x i ≡ l → i ≡ j
     one-place i h m f =
-        let leaving-there : leaves w c i ≡ true = rw (f, e) (eq-eqb c c refl) in
-        let r : RowLeaving w c i = row-leaving (s .sound) c i h m leaving-there in
+        let leaving-there : leaves w x i ≡ true = rw (f, e) (eq-eqb x x refl) in
+        let r : RowLeaving w x i = row-leaving (s .sound) x i h m leaving-there in
         let picks : pickOf w l ≡ suc (r .row) = rw f at (r .picks) in
         let same : r .row ≡ k = omega arith in
         let place : rowPlaceOf w l (r .row) ≡ i = rw f at (r .place) in
         sym (rw same at place)
 
-    row-timely : InTime w all (sendAt w l c j)
+    row-timely : InTime w all (sendAt w l x j)
     row-timely =
         let g = leaving (s .sound) l k here e in
-        let x = next-is (s .sound .channel c (g .channel)) (s .told c (g .channel)) j (g .place) (g .held) in
-        let message : messageOf w c j - 1 ≡ x .n = omega (arith, x .number) in
+        let y = next-is (s .sound .channel x (g .channel)) (s .told x (g .channel)) j (g .place) (g .held) in
+        let message : messageOf w x j - 1 ≡ y .n = omega (arith, y .number) in
         record {
           known = g .channel;
-          told = rw message (x .inside);
+          told = rw message (y .inside);
           due = λ i h f.
               rw (message, one-place i (g .channel) h f)
-              (before-due s (clockOf w) on c j (x .n) (g .channel) (g .place) (x .inside) (x .ends));
+              (before-due s (clockOf w) on x j (y .n) (g .channel) (g .place) (y .inside) (y .ends));
         }
 
   link-timely : (l position : ℕ) → l < linksOf w → pickOf w l ≡ position → Every (InTime w all) (sendFrom w l position)

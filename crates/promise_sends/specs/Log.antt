@@ -15,13 +15,13 @@ use Rattle.promise_sends.specs.Sends.{isOn, nameOf}
 
 -- a packet of a message that its channel has accepted, sent before its deadline on that link: the message's logical time and the
 -- delays up to there
-pub record InTime (w : Store) (all : Accepted) (x : Send) : Type 0 where
-  pub known : IsChannel w (x .channel)
-  pub told : x .message < length (all (x .channel))
-  pub due : (j : ℕ) → j < hopsOf w (x .channel) → routeOf w (x .channel) j ≡ x .link
-      → x .slot < timeAt (all (x .channel)) (x .message) + sumTo (delayOf w (x .channel)) (suc j)
+pub record InTime (w : Store) (all : Accepted) (s : Send) : Type 0 where
+  pub known : IsChannel w (s .channel)
+  pub told : s .message < length (all (s .channel))
+  pub due : (j : ℕ) → j < hopsOf w (s .channel) → routeOf w (s .channel) j ≡ s .link
+      → s .slot < timeAt (all (s .channel)) (s .message) + sumTo (delayOf w (s .channel)) (suc j)
 
 pub record Logged (w : Store) (all : Accepted) (log : List Send) : Type 0 where
-  pub names : (c j : ℕ) → IsChannel w c → j < hopsOf w c
-      → map nameOf (keep (isOn c (routeOf w c j)) log) ≡ take (sentOf w c j) (packetsFrom 0 0 (all c))
+  pub names : (x j : ℕ) → IsChannel w x → j < hopsOf w x
+      → map nameOf (keep (isOn x (routeOf w x j)) log) ≡ take (sentOf w x j) (packetsFrom 0 0 (all x))
   pub timely : Every (InTime w all) log

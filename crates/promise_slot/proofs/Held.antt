@@ -22,40 +22,40 @@ use Rattle.promise_slot.proofs.Told.{told-after}
 use Rattle.promise_slot.proofs.Steady.{links-after, counted-after}
 use Rattle.promise_slot.proofs.Kept.{near-here}
 
--- A logical time at place j + 1 of channel c at the clock after the slot: its deadline there is still to come, and on the link
+-- A logical time at place j + 1 of channel x at the clock after the slot: its deadline there is still to come, and on the link
 -- before it has been within the horizon.
-abbrev InStretch : Store → (c j ℓ : ℕ) → Type 0
-InStretch w c j ℓ = (suc (clockOf w) < ℓ + delayOf w c (suc j))
-    × (ℓ < suc (clockOf w) + horizonOf w (routeOf w c j) + delayOf w c j)
+abbrev InStretch : Store → (x j ℓ : ℕ) → Type 0
+InStretch w x j ℓ = (suc (clockOf w) < ℓ + delayOf w x (suc j))
+    × (ℓ < suc (clockOf w) + horizonOf w (routeOf w x j) + delayOf w x j)
 
 module _ {w : Store} {all : Accepted} (s : Seen w all) where
   -- no more has been sent than was accepted
-  gone-most : (c j : ℕ) → IsChannel w c → j < hopsOf w c → sentOf (moved w) c j ≤ ended 0 (all c)
-  gone-most c j h i =
+  gone-most : (x j : ℕ) → IsChannel w x → j < hopsOf w x → sentOf (moved w) x j ≤ ended 0 (all x)
+  gone-most x j h i =
       let settled : Settled w (moved w) = moved-settled (s .sound) in
-      let same : SameNumbers w (moved w) c = settled-numbers (s .sound) settled c h in
-      sent-most (channel-kept settled (s .sound) c h (course (s .sound) c h)) (told-after s c (same .there)) j
+      let same : SameNumbers w (moved w) x = settled-numbers (s .sound) settled x h in
+      sent-most (channel-kept settled (s .sound) x h (course (s .sound) x h)) (told-after s x (same .there)) j
       (rw (same .hops-are) i)
 
-  module _ (on : Steady w all) (near : Near w all) (c j : ℕ) (h : IsChannel w c) (i : suc j < hopsOf w c) where
+  module _ (on : Steady w all) (near : Near w all) (x j : ℕ) (h : IsChannel w x) (i : suc j < hopsOf w x) where
     -- a message of which a packet is held at place j + 1
-    in-stretch : (n : ℕ) → n < length (all c) → sentOf (moved w) c (suc j) < endAfter (all c) (suc n)
-        → endAfter (all c) n < sentOf (moved w) c j → InStretch w c j (timeAt (all c) n + sumTo (delayOf w c) (suc j))
+    in-stretch : (n : ℕ) → n < length (all x) → sentOf (moved w) x (suc j) < endAfter (all x) (suc n)
+        → endAfter (all x) n < sentOf (moved w) x j → InStretch w x j (timeAt (all x) n + sumTo (delayOf w x) (suc j))
     unfolding sumTo
     in-stretch n l above below =
-        let early : _ = near-here s c j h (omega arith) near i n l below in
+        let early : _ = near-here s x j h (omega arith) near i n l below in
         let t : ℕ = suc (clockOf w) in
-        let due : _ = still-before s (moved w) (counted-after s on) t (links-after s on) c (suc j) n h i l above in
+        let due : _ = still-before s (moved w) (counted-after s on) t (links-after s on) x (suc j) n h i l above in
         (omega (arith, due), omega (arith, early))
 
-    pub held-later : heldOf (moved w) c (suc j) ≤ reservedOf w c (suc j)
+    pub held-later : heldOf (moved w) x (suc j) ≤ reservedOf w x (suc j)
     unfolding enteredOf reservedOf
     held-later =
-        let p : ℕ = pOf w c in
-        let before : ℕ = horizonOf w (routeOf w c j) in
-        let few : _ = few-held (cOf w c) p (all c) (s .orderly c) (InStretch w c j) (sumTo (delayOf w c) (suc j))
-        (sentOf (moved w) c (suc j)) (sentOf (moved w) c j) (1 + (before + delayOf w c j + delayOf w c (suc j) - 2) / p)
-        (gone-most c j h (omega arith)) in-stretch
-        (λ e times apart each. on-later p e times apart (suc (clockOf w)) (delayOf w c (suc j)) before (delayOf w c j)
-        (s .sound .channel c h .good .p-least) each) in
+        let p : ℕ = pOf w x in
+        let before : ℕ = horizonOf w (routeOf w x j) in
+        let few : _ = few-held (cOf w x) p (all x) (s .orderly x) (InStretch w x j) (sumTo (delayOf w x) (suc j))
+        (sentOf (moved w) x (suc j)) (sentOf (moved w) x j) (1 + (before + delayOf w x j + delayOf w x (suc j) - 2) / p)
+        (gone-most x j h (omega arith)) in-stretch
+        (λ e times apart each. on-later p e times apart (suc (clockOf w)) (delayOf w x (suc j)) before (delayOf w x j)
+        (s .sound .channel x h .good .p-least) each) in
         omega (arith, few)

@@ -27,60 +27,60 @@ use Rattle.promise_view.proofs.Settled.{within-kept}
 use Rattle.promise_view.proofs.Next.{NextIs, next-is}
 
 module _ {w : Store} {all : Accepted} (s : Seen w all) where
-  module _ (c j : ℕ) (h : IsChannel w c) (i : j < hopsOf w c) where
+  module _ (x j : ℕ) (h : IsChannel w x) (i : j < hopsOf w x) where
     -- a packet that leaves is current, or within the horizon
-    leaving-near : leaves w c j ≡ true → logicalOf w c j ≤ clockOf w + horizonOf w (routeOf w c j)
+    leaving-near : leaves w x j ≡ true → logicalOf w x j ≤ clockOf w + horizonOf w (routeOf w x j)
     leaving-near e =
-        let r : _ = row-leaving (s .sound) c j h i e in
-        rw (r .channel, r .place) at (near (r .row) (rw (r .picks) at (pick-is w (routeOf w c j))))
+        let r : _ = row-leaving (s .sound) x j h i e in
+        rw (r .channel, r .place) at (near (r .row) (rw (r .picks) at (pick-is w (routeOf w x j))))
       where
-        near : (k : ℕ) → PickIs w (routeOf w c j) (suc k)
-            → rowLogical w (routeOf w c j) k ≤ clockOf w + horizonOf w (routeOf w c j)
+        near : (k : ℕ) → PickIs w (routeOf w x j) (suc k)
+            → rowLogical w (routeOf w x j) k ≤ clockOf w + horizonOf w (routeOf w x j)
         near k (inl d) = omega (arith, d .current)
         near k (inr d) = d .near
 
     -- the message that it is of
-    leaving-time : leaves w c j ≡ true → (n : ℕ) → n < length (all c) → endAfter (all c) n ≡ sentOf w c j
-        → timeAt (all c) n + sumTo (delayOf w c) j ≤ clockOf w + horizonOf w (routeOf w c j)
+    leaving-time : leaves w x j ≡ true → (n : ℕ) → n < length (all x) → endAfter (all x) n ≡ sentOf w x j
+        → timeAt (all x) n + sumTo (delayOf w x) j ≤ clockOf w + horizonOf w (routeOf w x j)
     leaving-time e n l m =
-        let x : NextIs w c j (all c) = next-is (s .sound .channel c h) (s .told c h) j i (leaving-held (s .sound) c j h i e) in
-        let rises : _ = end-rises (cOf w c) (pOf w c) (all c) (s .orderly c) n l in
-        let same : n ≡ x .n = end-one (cOf w c) (pOf w c) (all c) (s .orderly c) (sentOf w c j) n (x .n) l (x .inside)
-        (omega arith) (omega arith) (x .starts) (x .ends) in
-        rw same (omega (arith, leaving-near e, x .logical))
+        let y : NextIs w x j (all x) = next-is (s .sound .channel x h) (s .told x h) j i (leaving-held (s .sound) x j h i e) in
+        let rises : _ = end-rises (cOf w x) (pOf w x) (all x) (s .orderly x) n l in
+        let same : n ≡ y .n = end-one (cOf w x) (pOf w x) (all x) (s .orderly x) (sentOf w x j) n (y .n) l (y .inside)
+        (omega arith) (omega arith) (y .starts) (y .ends) in
+        rw same (omega (arith, leaving-near e, y .logical))
 
     -- so a message of which a packet has gone on from here is as near as that
-    pub near-here : Near w all → suc j < hopsOf w c → (n : ℕ) → n < length (all c) → endAfter (all c) n < sentOf (moved w) c j
-        → timeAt (all c) n + sumTo (delayOf w c) j ≤ clockOf w + horizonOf w (routeOf w c j)
-    near-here near k n l m = go (decLt (endAfter (all c) n) (sentOf w c j)) (leaves w c j) refl
+    pub near-here : Near w all → suc j < hopsOf w x → (n : ℕ) → n < length (all x) → endAfter (all x) n < sentOf (moved w) x j
+        → timeAt (all x) n + sumTo (delayOf w x) j ≤ clockOf w + horizonOf w (routeOf w x j)
+    near-here near k n l m = go (decLt (endAfter (all x) n) (sentOf w x j)) (leaves w x j) refl
       where
-        go : Dec (endAfter (all c) n < sentOf w c j) → (b : Bool) → leaves w c j ≡ b
-            → timeAt (all c) n + sumTo (delayOf w c) j ≤ clockOf w + horizonOf w (routeOf w c j)
-        go (yes d) b e = omega (arith, near c j n h k l d)
-        go (no d) true e = leaving-time e n l (omega (arith, d, sent-goes (s .sound) c j h i e))
-        go (no d) false e = absurd (omega (arith, d, sent-stays (s .sound) c j h i e))
+        go : Dec (endAfter (all x) n < sentOf w x j) → (b : Bool) → leaves w x j ≡ b
+            → timeAt (all x) n + sumTo (delayOf w x) j ≤ clockOf w + horizonOf w (routeOf w x j)
+        go (yes d) b e = omega (arith, near x j n h k l d)
+        go (no d) true e = leaving-time e n l (omega (arith, d, sent-goes (s .sound) x j h i e))
+        go (no d) false e = absurd (omega (arith, d, sent-stays (s .sound) x j h i e))
 
   -- the channels, and their numbers, are those of before
-  old-channel : (c : ℕ) → IsChannel (moved w) c → IsChannel w c
-  old-channel c h = rw (channels-same (moved-settled (s .sound))) at h
+  old-channel : (x : ℕ) → IsChannel (moved w) x → IsChannel w x
+  old-channel x h = rw (channels-same (moved-settled (s .sound))) at h
 
-  numbers : (c : ℕ) → IsChannel w c → SameNumbers w (moved w) c
+  numbers : (x : ℕ) → IsChannel w x → SameNumbers w (moved w) x
   numbers = settled-numbers (s .sound) (moved-settled (s .sound))
 
   pub near-after : Near w all → Near (moved w) all
-  near-after near c j n h i l m =
-      let a : IsChannel w c = old-channel c h in
-      let same : SameNumbers w (moved w) c = numbers c a in
-      let b : suc j < hopsOf w c = rw (same .hops-are) at i in
-      let here : j < hopsOf w c = omega arith in
-      let bound : _ = near-here c j a here near b n l m in
+  near-after near x j n h i l m =
+      let a : IsChannel w x = old-channel x h in
+      let same : SameNumbers w (moved w) x = numbers x a in
+      let b : suc j < hopsOf w x = rw (same .hops-are) at i in
+      let here : j < hopsOf w x = omega arith in
+      let bound : _ = near-here x j a here near b n l m in
       rw (delays-same same j (omega arith), horizon-is (s .sound) (network-same (moved-settled (s .sound))) same a j here)
       (rw (clock-after (s .sound)) (omega arith))
 
   pub in-burst-after : InBurst w all → InBurst (moved w) all
-  in-burst-after burst c n h =
-      let a : IsChannel w c = old-channel c h in
-      burst-same (numbers c a) (omega (arith, clock-after (s .sound))) n (all c) (burst c n a)
+  in-burst-after burst x n h =
+      let a : IsChannel w x = old-channel x h in
+      burst-same (numbers x a) (omega (arith, clock-after (s .sound))) n (all x) (burst x n a)
 
   pub within-after : Within w → Within (moved w)
   within-after = within-kept (moved-settled (s .sound)) (s .sound)

@@ -20,16 +20,16 @@ use Rattle.promise_slot.proofs.Held.{held-later}
 
 module _ {w : Store} {all : Accepted} (s : Seen w all) (on : Steady w all) (near : Near w all) where
   -- nothing comes to the first place in a slot
-  held-after : (c j : ℕ) → IsChannel w c → j < hopsOf w c → heldOf (moved w) c j ≤ reservedOf w c j
+  held-after : (x j : ℕ) → IsChannel w x → j < hopsOf w x → heldOf (moved w) x j ≤ reservedOf w x j
   unfolding enteredOf
-  held-after c zero h i =
+  held-after x zero h i =
       omega (
         arith,
-        held-most (s .sound) c zero h i,
-        accepted-after (s .sound) c (few-channels (s .sound) c h),
-        sent-rises (s .sound) c zero h i,
+        held-most (s .sound) x zero h i,
+        accepted-after (s .sound) x (few-channels (s .sound) x h),
+        sent-rises (s .sound) x zero h i,
       )
-  held-after c (suc j) h i = held-later s on near c j h i
+  held-after x (suc j) h i = held-later s on near x j h i
 
   pub sound-after : clockOf w < endSlot → Sound (moved w)
   sound-after h =
@@ -41,5 +41,5 @@ module _ {w : Store} {all : Accepted} (s : Seen w all) (on : Steady w all) (near
     tables = tables-kept (moved-settled (s .sound)) (s .sound) (s .tables);
     told = told-after s;
     orderly = orderly-same (settled-numbers (s .sound) (moved-settled (s .sound))) (s .orderly) (s .none);
-    none = λ c i. s .none c (rw (channels-same (moved-settled (s .sound))) at i);
+    none = λ x i. s .none x (rw (channels-same (moved-settled (s .sound))) at i);
   }

@@ -31,12 +31,12 @@ use Rattle.promise_view.proofs.Next.{NextIs, next-is}
 use Rattle.promise_view.proofs.Head.{head-is}
 
 module _ {w : Store} {all : Accepted} (s : Seen w all) where
-  -- where a packet of channel c leaves place j, it was held there
-  sends-one : (c j : ℕ) → IsChannel w c → j < hopsOf w c → leaves w c j ≡ true
-      → Sends (trafficOf w all c) (sentOf (moved w) c) j
-  sends-one c j h i e = record {
-    held = rw (entered-is (s .told c h) j) (leaving-held (s .sound) c j h i e);
-    one = omega (arith, sent-goes (s .sound) c j h i e);
+  -- where a packet of channel x leaves place j, it was held there
+  sends-one : (x j : ℕ) → IsChannel w x → j < hopsOf w x → leaves w x j ≡ true
+      → Sends (trafficOf w all x) (sentOf (moved w) x) j
+  sends-one x j h i e = record {
+    held = rw (entered-is (s .told x h) j) (leaving-held (s .sound) x j h i e);
+    one = omega (arith, sent-goes (s .sound) x j h i e);
   }
 
   steps : (k : Key) → Inside (planOf w) k → Steps (trafficOf w all (k .channel)) (sentOf (moved w) (k .channel)) (k .place)
@@ -58,22 +58,22 @@ module _ {w : Store} {all : Accepted} (s : Seen w all) where
         → (left : ℕ) × (head (planOf w) (trafficOf w all) (keyOf w l i) ≡ busy (rowLogical w l i) left)
     row-head i h m =
         let r : RowIs w l i = s .sound .rows l here .rows i h in
-        let c : ℕ = rowChannelOf w l i in
+        let x : ℕ = rowChannelOf w l i in
         let j : ℕ = rowPlaceOf w l i in
-        let x : NextIs w c j (all c) =
-        next-is (s .sound .channel c (r .channel)) (s .told c (r .channel)) j (r .place) (ltb-true _ _ m) in
-        (_, head-is x (s .orderly c))
+        let y : NextIs w x j (all x) =
+        next-is (s .sound .channel x (r .channel)) (s .told x (r .channel)) j (r .place) (ltb-true _ _ m) in
+        (_, head-is y (s .orderly x))
 
     row-current : (i : ℕ) → i < rowsOf w l → rowHeld w l i ≡ true
         → Current (clockOf w) (head (planOf w) (trafficOf w all) (keyOf w l i)) → rowLogical w l i ≤ clockOf w
     row-current i h m now =
-        let x : _ = row-head i h m in
-        let e : rowLogical w l i < suc (clockOf w) = rw (x .1) at now in
+        let y : _ = row-head i h m in
+        let e : rowLogical w l i < suc (clockOf w) = rw (y .1) at now in
         omega arith
 
     row-deadline : (i : ℕ) → i < rowsOf w l → rowHeld w l i ≡ true
         → deadline (row (planOf w) (keyOf w l i)) (head (planOf w) (trafficOf w all) (keyOf w l i)) ≡ rowDeadline w l i
-    row-deadline i h m = let x : _ = row-head i h m in rw (x .1)
+    row-deadline i h m = let y : _ = row-head i h m in rw (y .1)
 
     key-at : (k : Key) → k ∈ keysOf w l → (i : ℕ) × (i < rowsOf w l) × (k ≡ keyOf w l i)
     key-at k m = key-row w l (rowsOf w l) k (rw (keys-are w l here) at m)
@@ -82,9 +82,9 @@ module _ {w : Store} {all : Accepted} (s : Seen w all) where
     idle : ((i : ℕ) → i < rowsOf w l → rowHeld w l i ≡ true → clockOf w < rowLogical w l i)
         → Idle (row (planOf w)) (HeldAt (trafficOf w all)) (keysOf w l) (clockOf w) (head (planOf w) (trafficOf w all))
     idle early k m held now =
-        let x : _ = key-at k m in
-        let a : rowHeld w l (x .0) ≡ true = row-held (x .0) (x .1) (rw (x .2) at held) in
-        omega (arith, early (x .0) (x .1) a, row-current (x .0) (x .1) a (rw (x .2) at now))
+        let y : _ = key-at k m in
+        let a : rowHeld w l (y .0) ≡ true = row-held (y .0) (y .1) (rw (y .2) at held) in
+        omega (arith, early (y .0) (y .1) a, row-current (y .0) (y .1) a (rw (y .2) at now))
 
     least : (k i : ℕ) → Leads (rowDeadline w l) (rowChannelOf w l) k i → rowDeadline w l k ≤ rowDeadline w l i
     least k i (inl a) = omega arith
@@ -94,11 +94,11 @@ module _ {w : Store} {all : Accepted} (s : Seen w all) where
         → Earliest (row (planOf w)) (HeldAt (trafficOf w all)) (keysOf w l) (clockOf w) (head (planOf w) (trafficOf w all))
         (keyOf w l k)
     earliest k d i m held now =
-        let x : _ = key-at i m in
-        let a : rowHeld w l (x .0) ≡ true = row-held (x .0) (x .1) (rw (x .2) at held) in
-        let b : rowLogical w l (x .0) ≤ clockOf w = row-current (x .0) (x .1) a (rw (x .2) at now) in
-        rw (x .2, row-deadline k (d .inside) (d .held), row-deadline (x .0) (x .1) a)
-        (least k (x .0) (d .first (x .0) (x .1) a b))
+        let y : _ = key-at i m in
+        let a : rowHeld w l (y .0) ≡ true = row-held (y .0) (y .1) (rw (y .2) at held) in
+        let b : rowLogical w l (y .0) ≤ clockOf w = row-current (y .0) (y .1) a (rw (y .2) at now) in
+        rw (y .2, row-deadline k (d .inside) (d .held), row-deadline (y .0) (y .1) a)
+        (least k (y .0) (d .first (y .0) (y .1) a b))
 
     picks-row : (k : ℕ) → pickOf w l ≡ suc k → PickIs w l (suc k)
         → Picks (planOf w) (trafficOf w all) (clockOf w) (sentOf (moved w)) l

@@ -11,8 +11,8 @@ use Rattle.promise_view.proofs.Seen.{Seen}
 use Rattle.promise_view.proofs.Same.{told-same}
 
 module _ {w : Store} {all : Accepted} (s : Seen w all) where
-  pub told-after : (c : ℕ) → IsChannel (moved w) c → Told (moved w) c (all c)
-  told-after c i =
-      let h : IsChannel w c = rw (channels-same (moved-settled (s .sound))) at i in
-      let few : c < mostChannels = few-channels (s .sound) c h in
-      told-same (messages-after (s .sound) c few) (time-after (s .sound) c few) (end-after (s .sound) c few) (s .told c h)
+  pub told-after : (x : ℕ) → IsChannel (moved w) x → Told (moved w) x (all x)
+  told-after x i =
+      let h : IsChannel w x = rw (channels-same (moved-settled (s .sound))) at i in
+      let few : x < mostChannels = few-channels (s .sound) x h in
+      told-same (messages-after (s .sound) x few) (time-after (s .sound) x few) (end-after (s .sound) x few) (s .told x h)

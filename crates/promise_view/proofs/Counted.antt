@@ -17,29 +17,29 @@ use Rattle.promise_view.proofs.Seen.{Seen}
 use Rattle.promise_view.proofs.Places.{place-is}
 
 -- the packets of all messages are those that were accepted; they have come to the first place
-pub accepted-count : {w : Store} {c : ℕ} {ms : List Message} → Told w c ms → acceptedOf w c ≡ ended 0 ms
-accepted-count {w} {c} {ms} t =
-    let e : endOf w c (length ms) ≡ ended 0 ms = t .end (length ms) (omega arith) (omega arith) ∙ end-all ms in
+pub accepted-count : {w : Store} {x : ℕ} {ms : List Message} → Told w x ms → acceptedOf w x ≡ ended 0 ms
+accepted-count {w} {x} {ms} t =
+    let e : endOf w x (length ms) ≡ ended 0 ms = t .end (length ms) (omega arith) (omega arith) ∙ end-all ms in
     rw (t .count) e
 
 -- and no place has sent more
-pub sent-most : {w : Store} {c : ℕ} {ms : List Message} → ChannelIs w c → Told w c ms → (j : ℕ) → j < hopsOf w c
-    → sentOf w c j ≤ ended 0 ms
+pub sent-most : {w : Store} {x : ℕ} {ms : List Message} → ChannelIs w x → Told w x ms → (j : ℕ) → j < hopsOf w x
+    → sentOf w x j ≤ ended 0 ms
 sent-most k t j h = omega (arith, k .flows j h, entered-most k j h, accepted-count t)
 
-pub entered-is : {w : Store} {c : ℕ} {ms : List Message} → Told w c ms → (j : ℕ) → entered (courseOf w ms c) j ≡ enteredOf w c j
+pub entered-is : {w : Store} {x : ℕ} {ms : List Message} → Told w x ms → (j : ℕ) → entered (courseOf w ms x) j ≡ enteredOf w x j
 unfolding entered enteredOf
 entered-is t zero = sym (accepted-count t)
 entered-is t (suc j) = refl
 
 pub counted : {w : Store} {all : Accepted} → Seen w all → AllCounted (planOf w) (trafficOf w all)
-counted {w} {all} s c = record {
-  orderly = s .orderly c;
+counted {w} {all} s x = record {
+  orderly = s .orderly x;
   forgot = λ j h. omega arith;
   flows = flows;
 }
   where
-    flows : (j : ℕ) → j < placesOf w c → sentOf w c j ≤ entered (courseOf w (all c) c) j
+    flows : (j : ℕ) → j < placesOf w x → sentOf w x j ≤ entered (courseOf w (all x) x) j
     flows j i =
-        let h : _ = place-is w c j i in
-        rw (entered-is (s .told c (h .0)) j) (s .sound .channel c (h .0) .flows j (h .1))
+        let h : _ = place-is w x j i in
+        rw (entered-is (s .told x (h .0)) j) (s .sound .channel x (h .0) .flows j (h .1))

@@ -14,8 +14,8 @@ use Rattle.promise_view.specs.View.{channelOf, courseOf}
 use Rattle.promise_view.proofs.Places.{offset-is}
 use Rattle.promise_view.proofs.Next.{NextIs}
 
-pub head-is : {w : Store} {c j : ℕ} {ms : List Message} (x : NextIs w c j ms) → Orderly (cOf w c) (pOf w c) 0 0 ms
-    → headOf (channelOf w c) (courseOf w ms c) j ≡ busy (logicalOf w c j) (endAfter ms (suc (x .n)) - sentOf w c j)
-head-is {w} {c} {j} {ms} x o =
-    rw (offset-is w c j, x .logical)
-    (head-at (cOf w c) (pOf w c) ms o (sumTo (delayOf w c) j) (x .n) (sentOf w c j) (x .inside) (x .starts) (x .ends))
+pub head-is : {w : Store} {x j : ℕ} {ms : List Message} (y : NextIs w x j ms) → Orderly (cOf w x) (pOf w x) 0 0 ms
+    → headOf (channelOf w x) (courseOf w ms x) j ≡ busy (logicalOf w x j) (endAfter ms (suc (y .n)) - sentOf w x j)
+head-is {w} {x} {j} {ms} y o =
+    rw (offset-is w x j, y .logical)
+    (head-at (cOf w x) (pOf w x) ms o (sumTo (delayOf w x) j) (y .n) (sentOf w x j) (y .inside) (y .starts) (y .ends))

@@ -17,28 +17,28 @@ use Rattle.promise_view.proofs.Counted.{counted}
 
 -- with the plan of w, where w′ says how much has been sent
 module _ {w : Store} {all : Accepted} (s : Seen w all) (w′ : Store) (now : AllCounted (planOf w) (trafficOf w′ all)) (t : ℕ)
-    (on : OnLinks (planOf w) (trafficOf w′ all) t) (c j n : ℕ) (h : IsChannel w c) (i : j < hopsOf w c)
-    (l : n < length (all c)) where
-  all-sent : timeAt (all c) n + sumTo (delayOf w c) (suc j) ≤ t → endAfter (all c) (suc n) ≤ sentOf w′ c j
+    (on : OnLinks (planOf w) (trafficOf w′ all) t) (x j n : ℕ) (h : IsChannel w x) (i : j < hopsOf w x)
+    (l : n < length (all x)) where
+  all-sent : timeAt (all x) n + sumTo (delayOf w x) (suc j) ≤ t → endAfter (all x) (suc n) ≤ sentOf w′ x j
   all-sent past =
-      let k : Key = record { channel = c; place = j } in
-      let a : _ = message-at (all c) n l in
+      let k : Key = record { channel = x; place = j } in
+      let a : _ = message-at (all x) n l in
       rw (← a .end-is) (schedule-in-time (planOf w) (planned (s .sound) (s .tables)) (trafficOf w′ all) now t on k
-      (is-inside w k h i) (a .message) (a .there) (omega (arith, a .time-is, offset-is w c (suc j))))
+      (is-inside w k h i) (a .message) (a .there) (omega (arith, a .time-is, offset-is w x (suc j))))
 
   -- so that the deadline of one that is not wholly sent is still to come
-  pub still-before : sentOf w′ c j < endAfter (all c) (suc n) → t < timeAt (all c) n + sumTo (delayOf w c) (suc j)
-  still-before unsent = go (decLt t (timeAt (all c) n + sumTo (delayOf w c) (suc j)))
+  pub still-before : sentOf w′ x j < endAfter (all x) (suc n) → t < timeAt (all x) n + sumTo (delayOf w x) (suc j)
+  still-before unsent = go (decLt t (timeAt (all x) n + sumTo (delayOf w x) (suc j)))
     where
-      go : Dec (t < timeAt (all c) n + sumTo (delayOf w c) (suc j)) → t < timeAt (all c) n + sumTo (delayOf w c) (suc j)
+      go : Dec (t < timeAt (all x) n + sumTo (delayOf w x) (suc j)) → t < timeAt (all x) n + sumTo (delayOf w x) (suc j)
       go (yes d) = d
       go (no d) = absurd (omega (arith, unsent, all-sent (omega (arith, d))))
 
 module _ {w : Store} {all : Accepted} (s : Seen w all) (t : ℕ) (on : OnLinks (planOf w) (trafficOf w all) t) where
-  pub in-time : (c j n : ℕ) → IsChannel w c → j < hopsOf w c → n < length (all c)
-      → timeAt (all c) n + sumTo (delayOf w c) (suc j) ≤ t → endAfter (all c) (suc n) ≤ sentOf w c j
+  pub in-time : (x j n : ℕ) → IsChannel w x → j < hopsOf w x → n < length (all x)
+      → timeAt (all x) n + sumTo (delayOf w x) (suc j) ≤ t → endAfter (all x) (suc n) ≤ sentOf w x j
   in-time = all-sent s w (counted s) t on
 
-  pub before-due : (c j n : ℕ) → IsChannel w c → j < hopsOf w c → n < length (all c)
-      → sentOf w c j < endAfter (all c) (suc n) → t < timeAt (all c) n + sumTo (delayOf w c) (suc j)
+  pub before-due : (x j n : ℕ) → IsChannel w x → j < hopsOf w x → n < length (all x)
+      → sentOf w x j < endAfter (all x) (suc n) → t < timeAt (all x) n + sumTo (delayOf w x) (suc j)
   before-due = still-before s w (counted s) t on

@@ -11,26 +11,26 @@ use Rattle.folds.specs.Folds.{sumTo}
 use Rattle.promise_view.specs.View.{placesOf, channelOf, planOf}
 
 -- "the logical time is that of the link before plus the delay there": the delays up to a place, added up
-pub offset-is : (w : Store) (c j : ℕ) → offset (channelOf w c) j ≡ sumTo (delayOf w c) j
+pub offset-is : (w : Store) (x j : ℕ) → offset (channelOf w x) j ≡ sumTo (delayOf w x) j
 unfolding offset sumTo
-offset-is w c zero = refl
-offset-is w c (suc j) = rw (offset-is w c j)
+offset-is w x zero = refl
+offset-is w x (suc j) = rw (offset-is w x j)
 
-places-are : (w : Store) (c : ℕ) → IsChannel w c → placesOf w c ≡ hopsOf w c
+places-are : (w : Store) (x : ℕ) → IsChannel w x → placesOf w x ≡ hopsOf w x
 unfolding placesOf
-places-are w c h = rw (lt-ltb c (channelsOf w) h, placesOf)
+places-are w x h = rw (lt-ltb x (channelsOf w) h, placesOf)
 
-no-places : (w : Store) (c : ℕ) → channelsOf w ≤ c → placesOf w c ≡ 0
+no-places : (w : Store) (x : ℕ) → channelsOf w ≤ x → placesOf w x ≡ 0
 unfolding placesOf
-no-places w c h = rw (le-ltb c (channelsOf w) h, placesOf)
+no-places w x h = rw (le-ltb x (channelsOf w) h, placesOf)
 
 -- a place of the plan is one of a channel that was opened
-pub place-is : (w : Store) (c j : ℕ) → j < placesOf w c → (IsChannel w c) × (j < hopsOf w c)
-place-is w c j i = go (decLt c (channelsOf w))
+pub place-is : (w : Store) (x j : ℕ) → j < placesOf w x → (IsChannel w x) × (j < hopsOf w x)
+place-is w x j i = go (decLt x (channelsOf w))
   where
-    go : Dec (IsChannel w c) → (IsChannel w c) × (j < hopsOf w c)
-    go (yes h) = (h, omega (arith, places-are w c h))
-    go (no h) = absurd (omega (arith, no-places w c (omega (arith, h))))
+    go : Dec (IsChannel w x) → (IsChannel w x) × (j < hopsOf w x)
+    go (yes h) = (h, omega (arith, places-are w x h))
+    go (no h) = absurd (omega (arith, no-places w x (omega (arith, h))))
 
 pub inside-is : (w : Store) (k : Key) → Inside (planOf w) k → (IsChannel w (k .channel)) × (k .place < hopsOf w (k .channel))
 inside-is w k = place-is w (k .channel) (k .place)

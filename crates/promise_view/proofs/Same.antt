@@ -20,37 +20,37 @@ use Rattle.promise_view.specs.View.{channelOf, keysOf, planOf, Accepted,
 use Rattle.promise_view.proofs.Places.{offset-is, inside-is}
 use Rattle.promise_view.proofs.Planned.{placed}
 
-module _ {w w′ : Store} {c : ℕ} (same : SameNumbers w w′ c) where
-  pub delays-same : (n : ℕ) → n ≤ hopsOf w c → sumTo (delayOf w′ c) n ≡ sumTo (delayOf w c) n
-  delays-same n h = sum-same (delayOf w′ c) (delayOf w c) n (λ j i. same .delay-is j (omega arith))
+module _ {w w′ : Store} {x : ℕ} (same : SameNumbers w w′ x) where
+  pub delays-same : (n : ℕ) → n ≤ hopsOf w x → sumTo (delayOf w′ x) n ≡ sumTo (delayOf w x) n
+  delays-same n h = sum-same (delayOf w′ x) (delayOf w x) n (λ j i. same .delay-is j (omega arith))
 
-  pub row-same : (j : ℕ) → j < hopsOf w c → rowAt (channelOf w′ c) j ≡ rowAt (channelOf w c) j
+  pub row-same : (j : ℕ) → j < hopsOf w x → rowAt (channelOf w′ x) j ≡ rowAt (channelOf w x) j
   row-same j h = rw (same .c-is, same .p-is, same .delay-is j h)
 
-  head-same : (now : Course) (j : ℕ) → j < hopsOf w c → headOf (channelOf w′ c) now j ≡ headOf (channelOf w c) now j
-  head-same now j h = rw (offset-is w′ c j, offset-is w c j, delays-same j (omega arith), same .p-is)
+  head-same : (now : Course) (j : ℕ) → j < hopsOf w x → headOf (channelOf w′ x) now j ≡ headOf (channelOf w x) now j
+  head-same now j h = rw (offset-is w′ x j, offset-is w x j, delays-same j (omega arith), same .p-is)
 
 -- the messages that a store tells of
-pub told-same : {w w′ : Store} {c : ℕ} {ms : List Message} → messagesOf w′ c ≡ messagesOf w c
-    → ((n : ℕ) → timeOf w′ c n ≡ timeOf w c n) → ((n : ℕ) → endOf w′ c n ≡ endOf w c n) → Told w c ms → Told w′ c ms
+pub told-same : {w w′ : Store} {x : ℕ} {ms : List Message} → messagesOf w′ x ≡ messagesOf w x
+    → ((n : ℕ) → timeOf w′ x n ≡ timeOf w x n) → ((n : ℕ) → endOf w′ x n ≡ endOf w x n) → Told w x ms → Told w′ x ms
 told-same messages times ends t = record {
   count = messages ∙ t .count;
   time = λ n h i. times (suc n) ∙ t .time n h i;
   end = λ n h i. ends n ∙ t .end n h i;
 }
 
-pub told-record : {w w′ : Store} {c : ℕ} {ms : List Message} → SameRecord w w′ c → Told w c ms → Told w′ c ms
+pub told-record : {w w′ : Store} {x : ℕ} {ms : List Message} → SameRecord w w′ x → Told w x ms → Told w′ x ms
 told-record same = told-same (messages-same same) (time-same same) (end-same same)
 
 -- every channel that w has
-module _ {w w′ : Store} (same : (c : ℕ) → IsChannel w c → SameNumbers w w′ c) where
-  pub orderly-same : {all : Accepted} → ((c : ℕ) → Orderly (cOf w c) (pOf w c) 0 0 (all c))
-      → ((c : ℕ) → channelsOf w ≤ c → all c ≡ []) → (c : ℕ) → Orderly (cOf w′ c) (pOf w′ c) 0 0 (all c)
-  orderly-same {all} orderly none c = go (decLt c (channelsOf w))
+module _ {w w′ : Store} (same : (x : ℕ) → IsChannel w x → SameNumbers w w′ x) where
+  pub orderly-same : {all : Accepted} → ((x : ℕ) → Orderly (cOf w x) (pOf w x) 0 0 (all x))
+      → ((x : ℕ) → channelsOf w ≤ x → all x ≡ []) → (x : ℕ) → Orderly (cOf w′ x) (pOf w′ x) 0 0 (all x)
+  orderly-same {all} orderly none x = go (decLt x (channelsOf w))
     where
-      go : Dec (IsChannel w c) → Orderly (cOf w′ c) (pOf w′ c) 0 0 (all c)
-      go (yes h) = rw (same c h .c-is, same c h .p-is) (orderly c)
-      go (no h) = rw (none c (omega (arith, h))) tt
+      go : Dec (IsChannel w x) → Orderly (cOf w′ x) (pOf w′ x) 0 0 (all x)
+      go (yes h) = rw (same x h .c-is, same x h .p-is) (orderly x)
+      go (no h) = rw (none x (omega (arith, h))) tt
 
   -- J for the rows that link l has in w, with traffic that has the same heads there
   pub link-same : Sound w → (now now′ : Traffic)

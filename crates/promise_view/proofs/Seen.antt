@@ -20,9 +20,9 @@ use Rattle.promise_view.specs.View.{planOf, Accepted, trafficOf, Told}
 pub record Seen (w : Store) (all : Accepted) : Type 0 where
   pub sound : Sound w
   pub tables : (l : ℕ) → l < linksOf w → Table (tableOf w l)
-  pub told : (c : ℕ) → IsChannel w c → Told w c (all c)
-  pub orderly : (c : ℕ) → Orderly (cOf w c) (pOf w c) 0 0 (all c)
-  pub none : (c : ℕ) → channelsOf w ≤ c → all c ≡ []
+  pub told : (x : ℕ) → IsChannel w x → Told w x (all x)
+  pub orderly : (x : ℕ) → Orderly (cOf w x) (pOf w x) 0 0 (all x)
+  pub none : (x : ℕ) → channelsOf w ≤ x → all x ≡ []
 
 -- J on every link
 abbrev pub Steady : Store → Accepted → Type 0
@@ -30,23 +30,23 @@ Steady w all = OnLinks (planOf w) (trafficOf w all) (clockOf w)
 
 -- message n of a channel's, if a packet of it was sent on from place j to the next link: "the early packet .. if that is at most
 -- present slot + horizon"
-abbrev pub NearAt : Store → (c j n : ℕ) → List Message → Type 0
-NearAt w c j n ms = suc j < hopsOf w c → n < length ms → endAfter ms n < sentOf w c j
-    → timeAt ms n + sumTo (delayOf w c) j < clockOf w + horizonOf w (routeOf w c j)
+abbrev pub NearAt : Store → (x j n : ℕ) → List Message → Type 0
+NearAt w x j n ms = suc j < hopsOf w x → n < length ms → endAfter ms n < sentOf w x j
+    → timeAt ms n + sumTo (delayOf w x) j < clockOf w + horizonOf w (routeOf w x j)
 
 abbrev pub Near : Store → Accepted → Type 0
-Near w all = (c j n : ℕ) → IsChannel w c → NearAt w c j n (all c)
+Near w all = (x j n : ℕ) → IsChannel w x → NearAt w x j n (all x)
 
 -- "logical time − present slot is at most (B − 1) × p"
-abbrev pub InBurstAt : Store → (c n : ℕ) → List Message → Type 0
-InBurstAt w c n ms = n < length ms → timeAt ms n ≤ clockOf w + (bOf w c - 1) * pOf w c
+abbrev pub InBurstAt : Store → (x n : ℕ) → List Message → Type 0
+InBurstAt w x n ms = n < length ms → timeAt ms n ≤ clockOf w + (bOf w x - 1) * pOf w x
 
 abbrev pub InBurst : Store → Accepted → Type 0
-InBurst w all = (c n : ℕ) → IsChannel w c → InBurstAt w c n (all c)
+InBurst w all = (x n : ℕ) → IsChannel w x → InBurstAt w x n (all x)
 
 -- the delays along a route add up to at most D
-abbrev pub WithinAt : Store → (c : ℕ) → Type 0
-WithinAt w c = sumTo (delayOf w c) (hopsOf w c) ≤ dOf w c
+abbrev pub WithinAt : Store → (x : ℕ) → Type 0
+WithinAt w x = sumTo (delayOf w x) (hopsOf w x) ≤ dOf w x
 
 abbrev pub Within : Store → Type 0
-Within w = (c : ℕ) → IsChannel w c → WithinAt w c
+Within w = (x : ℕ) → IsChannel w x → WithinAt w x

@@ -20,13 +20,13 @@ use Rattle.promise_view.proofs.Same.{row-same, link-same}
 use Rattle.promise_view.proofs.Bounds.{within-same}
 
 module _ {w w′ : Store} (settled : Settled w w′) (sound : Sound w) where
-  numbers : (c : ℕ) → IsChannel w c → SameNumbers w w′ c
+  numbers : (x : ℕ) → IsChannel w x → SameNumbers w w′ x
   numbers = settled-numbers sound settled
 
   pub within-kept : Within w → Within w′
-  within-kept within c i =
-      let h : IsChannel w c = rw (channels-same settled) at i in
-      within-same (numbers c h) (within c h)
+  within-kept within x i =
+      let h : IsChannel w x = rw (channels-same settled) at i in
+      within-same (numbers x h) (within x h)
 
   -- link l
   module _ (l : ℕ) (h : l < linksOf w) where

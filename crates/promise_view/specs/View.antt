@@ -9,16 +9,16 @@ use lib.ListN.{length}
 use Rattle.schedule.specs.Messages.{Message}
 use Rattle.schedule.specs.Channel.{Channel, Course}
 use Rattle.schedule.specs.Network.{Key, Plan, Traffic}
-use Rattle.store.specs.Layout.{Store, ring, linksOf, channelsOf, rowsOf, rowChannelOf, rowPlaceOf, cOf, pOf, hopsOf, messagesOf}
-use Rattle.store.specs.Layout.{routeOf, delayOf, sentOf, timeOf, endOf}
+use Rattle.store.specs.Layout.{Store, ring, linksOf, rowsOf, rowChannelOf, rowPlaceOf, cOf, pOf, hopsOf, messagesOf, routeOf}
+use Rattle.store.specs.Layout.{delayOf, sentOf, timeOf, endOf, isChannel}
 use Rattle.promise_queue.specs.Queue.{timeAt, endAfter}
 
 -- a channel that was opened; one that was not has no place
-unfoldable pub placesOf : Store → (c : ℕ) → ℕ
-placesOf w c = elim (ltb c (channelsOf w)) [ true ↦ hopsOf w c | false ↦ 0 ]
+unfoldable pub placesOf : Store → (x : ℕ) → ℕ
+placesOf w x = elim (isChannel w x) [ true ↦ hopsOf w x | false ↦ 0 ]
 
-abbrev pub channelOf : Store → (c : ℕ) → Channel
-channelOf w c = record { c = cOf w c; p = pOf w c; hops = placesOf w c; link = routeOf w c; delay = delayOf w c }
+abbrev pub channelOf : Store → (x : ℕ) → Channel
+channelOf w x = record { c = cOf w x; p = pOf w x; hops = placesOf w x; link = routeOf w x; delay = delayOf w x }
 
 -- row k of link l; the first n rows; those of a link that there is
 abbrev pub keyOf : Store → (l k : ℕ) → Key
@@ -38,14 +38,14 @@ planOf w = record { channel = channelOf w; rows = keysOf w }
 abbrev pub Accepted : Type 0
 Accepted = ℕ → List Message
 
-abbrev pub courseOf : Store → List Message → (c : ℕ) → Course
-courseOf w ms c = record { first = 0; base = 0; messages = ms; sent = sentOf w c }
+abbrev pub courseOf : Store → List Message → (x : ℕ) → Course
+courseOf w ms x = record { first = 0; base = 0; messages = ms; sent = sentOf w x }
 
 abbrev pub trafficOf : Store → Accepted → Traffic
-trafficOf w all c = courseOf w (all c) c
+trafficOf w all x = courseOf w (all x) x
 
--- The store tells of these messages of channel c: how many there are, and of the last 24 the logical times and the ends.
-pub record Told (w : Store) (c : ℕ) (ms : List Message) : Type 0 where
-  pub count : messagesOf w c ≡ length ms
-  pub time : (n : ℕ) → n < length ms → length ms ≤ n + ring → timeOf w c (suc n) ≡ timeAt ms n
-  pub end : (n : ℕ) → n ≤ length ms → length ms < n + ring → endOf w c n ≡ endAfter ms n
+-- The store tells of these messages of channel x: how many there are, and of the last 24 the logical times and the ends.
+pub record Told (w : Store) (x : ℕ) (ms : List Message) : Type 0 where
+  pub count : messagesOf w x ≡ length ms
+  pub time : (n : ℕ) → n < length ms → length ms ≤ n + ring → timeOf w x (suc n) ≡ timeAt ms n
+  pub end : (n : ℕ) → n ≤ length ms → length ms < n + ring → endOf w x n ≡ endAfter ms n

@@ -15,43 +15,43 @@ use Rattle.slot_rules.specs.Pick.{pickOf}
 use Rattle.slot_keeps.specs.Room.{leaves, hasRoom, roomAfter}
 
 -- a place of a channel's route can be read, and is on a link
-module _ (w : Store) (sound : soundOf w ≡ true) (c j : ℕ) (h : IsChannel w c) (i : j < hopsOf w c) where
-  pub place-ranged : Ranged w c
-  place-ranged = fit-ranged w (sound-fit w sound) c h
+module _ (w : Store) (sound : soundOf w ≡ true) (x j : ℕ) (h : IsChannel w x) (i : j < hopsOf w x) where
+  pub place-ranged : Ranged w x
+  place-ranged = fit-ranged w (sound-fit w sound) x h
 
-  pub place-ready : Long w × ((c < mostChannels) × (j < mostHops))
+  pub place-ready : Long w × ((x < mostChannels) × (j < mostHops))
   place-ready = let r = place-ranged in (r .long, (r .channel, omega (arith, r .hops-most)))
 
-  pub place-flows : sentOf w c j ≤ enteredOf w c j
-  place-flows = sound-is w sound .channel c h .flows j i
+  pub place-flows : sentOf w x j ≤ enteredOf w x j
+  place-flows = sound-is w sound .channel x h .flows j i
 
-  pub place-link : routeOf w c j < linksOf w
-  place-link = sound-is w sound .channel c h .route .known j i
+  pub place-link : routeOf w x j < linksOf w
+  place-link = sound-is w sound .channel x h .route .known j i
 
 module _ (w : Store) (l : ℕ) where
-  -- link l is that of place j of channel c, and has picked no row, or row k
-  module _ (c j : ℕ) (here : l ≡ routeOf w c j) where
-    pub leaves-none : pickOf w l ≡ 0 → false ≡ leaves w c j
-    leaves-none e = let f : pickOf w (routeOf w c j) ≡ 0 = rw here at e in rw f
+  -- link l is that of place j of channel x, and has picked no row, or row k
+  module _ (x j : ℕ) (here : l ≡ routeOf w x j) where
+    pub leaves-none : pickOf w l ≡ 0 → false ≡ leaves w x j
+    leaves-none e = let f : pickOf w (routeOf w x j) ≡ 0 = rw here at e in rw f
 
-    pub leaves-row : (k x : ℕ) → pickOf w l ≡ suc k → x ≡ rowChannelOf w l k → eqb x c ≡ leaves w c j
-    leaves-row k x e a = let f : pickOf w (routeOf w c j) ≡ suc k = rw here at e in rw (f, a, here)
+    pub leaves-row : (k y : ℕ) → pickOf w l ≡ suc k → y ≡ rowChannelOf w l k → eqb y x ≡ leaves w x j
+    leaves-row k y e a = let f : pickOf w (routeOf w x j) ≡ suc k = rw here at e in rw (f, a, here)
 
   -- what the packet that it picked finds at the next place
   pub after-none : pickOf w l ≡ 0 → true ≡ roomAfter w l
   after-none e = rw e
 
-  module _ (k c j hops : ℕ) (e : pickOf w l ≡ suc k) (a : c ≡ rowChannelOf w l k) (b : j ≡ rowPlaceOf w l k)
-      (n : hops ≡ hopsOf w c) where
+  module _ (k x j hops : ℕ) (e : pickOf w l ≡ suc k) (a : x ≡ rowChannelOf w l k) (b : j ≡ rowPlaceOf w l k)
+      (n : hops ≡ hopsOf w x) where
     pub after-last : hops ≤ j + 1 → true ≡ roomAfter w l
-    after-last h = let m : hopsOf w c ≤ j + 1 = rw n at h in rw (e, ← a, ← b, le-leb (hopsOf w c) (j + 1) m)
+    after-last h = let m : hopsOf w x ≤ j + 1 = rw n at h in rw (e, ← a, ← b, le-leb (hopsOf w x) (j + 1) m)
 
-    pub after-next : j + 1 < hops → (x : Bool) → x ≡ hasRoom w c (j + 1) → x ≡ roomAfter w l
-    after-next h x r = let m : j + 1 < hopsOf w c = rw n at h in rw (e, ← a, ← b, lt-leb (hopsOf w c) (j + 1) m) r
+    pub after-next : j + 1 < hops → (y : Bool) → y ≡ hasRoom w x (j + 1) → y ≡ roomAfter w l
+    after-next h y r = let m : j + 1 < hopsOf w x = rw n at h in rw (e, ← a, ← b, lt-leb (hopsOf w x) (j + 1) m) r
 
-module _ (w : Store) (c j held reserved : ℕ) (a : held ≡ heldOf w c j) (b : reserved ≡ reservedOf w c j) where
-  pub room-free : held < reserved → true ≡ hasRoom w c j
-  room-free h = let m : heldOf w c j < reservedOf w c j = rw (a, b) at h in rw (lt-ltb (heldOf w c j) (reservedOf w c j) m)
+module _ (w : Store) (x j held reserved : ℕ) (a : held ≡ heldOf w x j) (b : reserved ≡ reservedOf w x j) where
+  pub room-free : held < reserved → true ≡ hasRoom w x j
+  room-free h = let m : heldOf w x j < reservedOf w x j = rw (a, b) at h in rw (lt-ltb (heldOf w x j) (reservedOf w x j) m)
 
-  pub room-full : reserved ≤ held → (x : Bool) → x ≡ leaves w c j → x ≡ hasRoom w c j
-  room-full h x e = let m : reservedOf w c j ≤ heldOf w c j = rw (a, b) at h in rw (le-ltb (heldOf w c j) (reservedOf w c j) m) e
+  pub room-full : reserved ≤ held → (y : Bool) → y ≡ leaves w x j → y ≡ hasRoom w x j
+  room-full h y e = let m : reservedOf w x j ≤ heldOf w x j = rw (a, b) at h in rw (le-ltb (heldOf w x j) (reservedOf w x j) m) e

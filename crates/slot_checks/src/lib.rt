@@ -15,34 +15,34 @@ ghost use Rattle.slot_pick.specs.Picks.{picksTo};
 ghost use Rattle.slot_keeps.specs.Room.{leaves as leavesAt, hasRoom, roomAfter};
 ghost use Rattle.slot_checks.specs.Left.{picksLeft};
 
-// Whether a packet of channel `c` leaves place `j` of its route in this slot.
-fn leaves(store: &[u64], picks: &[u64; 16], c: usize, j: usize) -> bool
+// Whether a packet of channel `x` leaves place `j` of its route in this slot.
+fn leaves(store: &[u64], picks: &[u64; 16], x: usize, j: usize) -> bool
     requires { ⌜ soundOf (now store) ≡ true ⌝ }
     requires { ⌜ now picks ≡ picksTo (now store) (linksOf (now store)) ⌝ }
-    requires { ⌜ IsChannel (now store) c ⌝ }
-    requires { ⌜ j < hopsOf (now store) c ⌝ }
-    ensures { λ r. ⌜ r ≡ leavesAt (now (store .entry)) c j ⌝ }
+    requires { ⌜ IsChannel (now store) x ⌝ }
+    requires { ⌜ j < hopsOf (now store) x ⌝ }
+    ensures { λ r. ⌜ r ≡ leavesAt (now (store .entry)) x j ⌝ }
 {
-    let l = channel::route(store, c, j);
+    let l = channel::route(store, x, j);
     let position = slot_move::pick(picks, l);
     if position == 0 {
         return false;
     }
-    link::row_channel(store, l, position - 1) == c
+    link::row_channel(store, l, position - 1) == x
 }
 
 // Whether one more may come there: fewer are held than are reserved, or one leaves.
-fn has_room(store: &[u64], picks: &[u64; 16], c: usize, j: usize) -> bool
+fn has_room(store: &[u64], picks: &[u64; 16], x: usize, j: usize) -> bool
     requires { ⌜ soundOf (now store) ≡ true ⌝ }
     requires { ⌜ now picks ≡ picksTo (now store) (linksOf (now store)) ⌝ }
-    requires { ⌜ IsChannel (now store) c ⌝ }
-    requires { ⌜ j < hopsOf (now store) c ⌝ }
-    ensures { λ r. ⌜ r ≡ hasRoom (now (store .entry)) c j ⌝ }
+    requires { ⌜ IsChannel (now store) x ⌝ }
+    requires { ⌜ j < hopsOf (now store) x ⌝ }
+    ensures { λ r. ⌜ r ≡ hasRoom (now (store .entry)) x j ⌝ }
 {
-    if store_route::held(store, c, j) < store_route::reserved(store, c, j) {
+    if store_route::held(store, x, j) < store_route::reserved(store, x, j) {
         return true;
     }
-    leaves(store, picks, c, j)
+    leaves(store, picks, x, j)
 }
 
 // Whether the packet that link `l` picked is on its last link, or has room on the next one.
@@ -56,12 +56,12 @@ fn room_after(store: &[u64], picks: &[u64; 16], l: usize) -> bool
     if position == 0 {
         return true;
     }
-    let c = link::row_channel(store, l, position - 1);
+    let x = link::row_channel(store, l, position - 1);
     let next = link::row_place(store, l, position - 1) + 1;
-    if next >= channel::hops(store, c) {
+    if next >= channel::hops(store, x) {
         return true;
     }
-    has_room(store, picks, c, next)
+    has_room(store, picks, x, next)
 }
 
 // 17, looked at last: whether every picked packet has room where it goes.

@@ -8,15 +8,15 @@ use Rattle.store.specs.Amounts.{acceptedOf, deliveredOf, enteredOf, heldOf}
 use Rattle.store.proofs.Laws.Sound.{ChannelIs, Sound}
 
 -- up to a place: those held there and before it, and those sent on from it
-conserved-to : {w : Store} {c : ℕ} → ChannelIs w c → (j : ℕ) → j < hopsOf w c
-    → sumTo (heldOf w c) (suc j) + sentOf w c j ≡ acceptedOf w c
+conserved-to : {w : Store} {x : ℕ} → ChannelIs w x → (j : ℕ) → j < hopsOf w x
+    → sumTo (heldOf w x) (suc j) + sentOf w x j ≡ acceptedOf w x
 unfolding sumTo enteredOf
 conserved-to k zero h = omega (arith, k .flows zero h)
 conserved-to k (suc j) h = omega (arith, k .flows (suc j) h, conserved-to k j (omega arith))
 
-pub conserved : {w : Store} → Sound w → (c : ℕ) → IsChannel w c
-    → sumTo (heldOf w c) (hopsOf w c) + deliveredOf w c ≡ acceptedOf w c
-conserved {w} s c h =
-    let k = s .channel c h in
-    let e : suc (hopsOf w c - 1) ≡ hopsOf w c = omega (arith, k .hops-least) in
-    rw e at (conserved-to k (hopsOf w c - 1) (omega (arith, k .hops-least)))
+pub conserved : {w : Store} → Sound w → (x : ℕ) → IsChannel w x
+    → sumTo (heldOf w x) (hopsOf w x) + deliveredOf w x ≡ acceptedOf w x
+conserved {w} s x h =
+    let k = s .channel x h in
+    let e : suc (hopsOf w x - 1) ≡ hopsOf w x = omega (arith, k .hops-least) in
+    rw e at (conserved-to k (hopsOf w x - 1) (omega (arith, k .hops-least)))

@@ -25,63 +25,63 @@ or-more true b a′ b′ f g e = rw (f refl)
 or-more false b a′ b′ f g e = or-true a′ b′ (g e)
 
 -- messages in order stay so when more is delivered
-module _ (w w′ : Store) (c : ℕ) (same-c : cOf w′ c ≡ cOf w c) (same-p : pOf w′ c ≡ pOf w c)
-    (same-time : (n : ℕ) → timeOf w′ c n ≡ timeOf w c n) (same-end : (n : ℕ) → endOf w′ c n ≡ endOf w c n)
-    (more : deliveredOf w c ≤ deliveredOf w′ c) where
-  delivered-more : (n : ℕ) → delivered w c n ≡ true → delivered w′ c n ≡ true
+module _ (w w′ : Store) (x : ℕ) (same-c : cOf w′ x ≡ cOf w x) (same-p : pOf w′ x ≡ pOf w x)
+    (same-time : (n : ℕ) → timeOf w′ x n ≡ timeOf w x n) (same-end : (n : ℕ) → endOf w′ x n ≡ endOf w x n)
+    (more : deliveredOf w x ≤ deliveredOf w′ x) where
+  delivered-more : (n : ℕ) → delivered w x n ≡ true → delivered w′ x n ≡ true
   delivered-more n e =
-      le-leb (endOf w′ c n) (deliveredOf w′ c) (omega (arith, leb-true (endOf w c n) (deliveredOf w c) e, same-end n))
+      le-leb (endOf w′ x n) (deliveredOf w′ x) (omega (arith, leb-true (endOf w x n) (deliveredOf w x) e, same-end n))
 
-  follows-more : (n : ℕ) → follows w c n ≡ true → follows w′ c n ≡ true
+  follows-more : (n : ℕ) → follows w x n ≡ true → follows w′ x n ≡ true
   follows-more n e =
-      let a = and-eq-true-iff (ltb (endOf w c n) (endOf w c (n + 1)) && leb (endOf w c (n + 1)) (endOf w c n + cOf w c)) _ .0 e in
-      both (ltb (endOf w′ c n) (endOf w′ c (n + 1)) && leb (endOf w′ c (n + 1)) (endOf w′ c n + cOf w′ c)) _
+      let a = and-eq-true-iff (ltb (endOf w x n) (endOf w x (n + 1)) && leb (endOf w x (n + 1)) (endOf w x n + cOf w x)) _ .0 e in
+      both (ltb (endOf w′ x n) (endOf w′ x (n + 1)) && leb (endOf w′ x (n + 1)) (endOf w′ x n + cOf w′ x)) _
       (rw (same-end n, same-end (n + 1), same-c) (a .0))
-      (or-more (delivered w c n) _ (delivered w′ c n) (leb (timeOf w′ c n + pOf w′ c) (timeOf w′ c (n + 1)))
+      (or-more (delivered w x n) _ (delivered w′ x n) (leb (timeOf w′ x n + pOf w′ x) (timeOf w′ x (n + 1)))
       (delivered-more n) (λ f. rw (same-time n, same-time (n + 1), same-p) f) (a .1))
 
-  pub order-more : (n kept : ℕ) → inOrder w c n kept ≡ true → inOrder w′ c n kept ≡ true
+  pub order-more : (n kept : ℕ) → inOrder w x n kept ≡ true → inOrder w′ x n kept ≡ true
   unfolding inOrder
   order-more zero zero e = delivered-more 0 e
   order-more zero (suc kept) e = delivered-more 0 e
   order-more (suc n) zero e = delivered-more (suc n) e
   order-more (suc n) (suc kept) e =
-      or-more (delivered w c (suc n)) _ (delivered w′ c (suc n)) _ (delivered-more (suc n))
-      (λ f. let a = and-eq-true-iff (follows w c n) (inOrder w c n kept) .0 f in
+      or-more (delivered w x (suc n)) _ (delivered w′ x (suc n)) _ (delivered-more (suc n))
+      (λ f. let a = and-eq-true-iff (follows w x n) (inOrder w x n kept) .0 f in
       both _ _ (follows-more n (a .0)) (order-more n kept (a .1))) e
 
-module _ {w : Store} (s : Sound w) (c : ℕ) (h : IsChannel w c) where
-  few : c < mostChannels
-  few = few-channels s c h
+module _ {w : Store} (s : Sound w) (x : ℕ) (h : IsChannel w x) where
+  few : x < mostChannels
+  few = few-channels s x h
 
   -- what has come to a place does not fall
-  entered-least : (j : ℕ) → j < hopsOf w c → enteredOf w c j ≤ enteredOf (moved w) c j
+  entered-least : (j : ℕ) → j < hopsOf w x → enteredOf w x j ≤ enteredOf (moved w) x j
   unfolding enteredOf
-  entered-least zero i = omega (arith, accepted-after s c few)
-  entered-least (suc j) i = sent-rises s c j h (omega arith)
+  entered-least zero i = omega (arith, accepted-after s x few)
+  entered-least (suc j) i = sent-rises s x j h (omega arith)
 
-  flows : (j : ℕ) → j < hopsOf w c → sentOf (moved w) c j ≤ enteredOf (moved w) c j
-  flows j i = go (leaves w c j) refl
+  flows : (j : ℕ) → j < hopsOf w x → sentOf (moved w) x j ≤ enteredOf (moved w) x j
+  flows j i = go (leaves w x j) refl
     where
-      go : (b : Bool) → leaves w c j ≡ b → sentOf (moved w) c j ≤ enteredOf (moved w) c j
-      go true e = omega (arith, sent-goes s c j h i e, leaving-held s c j h i e, entered-least j i)
-      go false e = omega (arith, sent-stays s c j h i e, s .channel c h .flows j i, entered-least j i)
+      go : (b : Bool) → leaves w x j ≡ b → sentOf (moved w) x j ≤ enteredOf (moved w) x j
+      go true e = omega (arith, sent-goes s x j h i e, leaving-held s x j h i e, entered-least j i)
+      go false e = omega (arith, sent-stays s x j h i e, s .channel x h .flows j i, entered-least j i)
 
-  delivered-least : deliveredOf w c ≤ deliveredOf (moved w) c
+  delivered-least : deliveredOf w x ≤ deliveredOf (moved w) x
   delivered-least =
-      rw (hops-kept (moved-settled s) c few)
-      (sent-rises s c (hopsOf w c - 1) h (omega (arith, s .channel c h .hops-least)))
+      rw (hops-kept (moved-settled s) x few)
+      (sent-rises s x (hopsOf w x - 1) h (omega (arith, s .channel x h .hops-least)))
 
-  pub course : CourseIs (moved w) c
+  pub course : CourseIs (moved w) x
   course =
-      let k = s .channel c h in
+      let k = s .channel x h in
       let settled = moved-settled s in
       record {
-        flows = λ j i. flows j (rw (hops-kept settled c few) at i);
-        messages-most = rw (messages-after s c few) (k .messages-most);
-        time-most = rw (messages-after s c few, time-after s c few (messagesOf w c)) (k .time-most);
-        accepted-most = rw (accepted-after s c few, c-kept settled c few, messages-after s c few) (k .accepted-most);
-        order = rw (messages-after s c few)
-            (order-more w (moved w) c (c-kept settled c few) (p-kept settled c few) (time-after s c few) (end-after s c few)
-            delivered-least (messagesOf w c) (ring - 1) (k .order));
+        flows = λ j i. flows j (rw (hops-kept settled x few) at i);
+        messages-most = rw (messages-after s x few) (k .messages-most);
+        time-most = rw (messages-after s x few, time-after s x few (messagesOf w x)) (k .time-most);
+        accepted-most = rw (accepted-after s x few, c-kept settled x few, messages-after s x few) (k .accepted-most);
+        order = rw (messages-after s x few)
+            (order-more w (moved w) x (c-kept settled x few) (p-kept settled x few) (time-after s x few) (end-after s x few)
+            delivered-least (messagesOf w x) (ring - 1) (k .order));
       }

@@ -11,18 +11,18 @@ use Rattle.store.specs.Amounts.{reservedOf, heldOf}
 use Rattle.folds.proofs.Folds.{or-true}
 use Rattle.slot_keeps.specs.Room.{leaves, hasRoom}
 
-abbrev pub RoomIs : Store → (c j : ℕ) → Type 0
-RoomIs w c j = (heldOf w c j < reservedOf w c j) ⊎ (leaves w c j ≡ true)
+abbrev pub RoomIs : Store → (x j : ℕ) → Type 0
+RoomIs w x j = (heldOf w x j < reservedOf w x j) ⊎ (leaves w x j ≡ true)
 
-module _ (w : Store) (c j : ℕ) where
-  pub room-is : hasRoom w c j ≡ true → RoomIs w c j
-  room-is h = go (ltb (heldOf w c j) (reservedOf w c j)) (leaves w c j) refl refl
+module _ (w : Store) (x j : ℕ) where
+  pub room-is : hasRoom w x j ≡ true → RoomIs w x j
+  room-is h = go (ltb (heldOf w x j) (reservedOf w x j)) (leaves w x j) refl refl
     where
-      go : (a b : Bool) → ltb (heldOf w c j) (reservedOf w c j) ≡ a → leaves w c j ≡ b → RoomIs w c j
-      go true b e f = inl (ltb-true (heldOf w c j) (reservedOf w c j) e)
+      go : (a b : Bool) → ltb (heldOf w x j) (reservedOf w x j) ≡ a → leaves w x j ≡ b → RoomIs w x j
+      go true b e f = inl (ltb-true (heldOf w x j) (reservedOf w x j) e)
       go false true e f = inr f
       go false false e f = absurd (let g : false ≡ true = simp (e, f) at h in let z : _≡_ {A = ℕ} 0 1 = cc in omega arith)
 
-  pub is-room : RoomIs w c j → hasRoom w c j ≡ true
-  is-room (inl h) = rw (lt-ltb (heldOf w c j) (reservedOf w c j) h)
-  is-room (inr h) = or-true (ltb (heldOf w c j) (reservedOf w c j)) (leaves w c j) h
+  pub is-room : RoomIs w x j → hasRoom w x j ≡ true
+  is-room (inl h) = rw (lt-ltb (heldOf w x j) (reservedOf w x j) h)
+  is-room (inr h) = or-true (ltb (heldOf w x j) (reservedOf w x j)) (leaves w x j) h

@@ -22,20 +22,20 @@ place-once g i j h k e = go (decLt i j) (decLt j i)
     go (no l) (yes m) = absurd (g .new i j h m (sym e))
     go (no l) (no m) = omega (arith, l, m)
 
--- link l picks the row of channel c at place j
-pub record Leaving (w : Store) (l c j : ℕ) : Type 0 where
-  pub channel : IsChannel w c
-  pub place : j < hopsOf w c
-  pub here : routeOf w c j ≡ l
-  pub held : sentOf w c j < enteredOf w c j
-  pub goes : leaves w c j ≡ true
+-- link l picks the row of channel x at place j
+pub record Leaving (w : Store) (l x j : ℕ) : Type 0 where
+  pub channel : IsChannel w x
+  pub place : j < hopsOf w x
+  pub here : routeOf w x j ≡ l
+  pub held : sentOf w x j < enteredOf w x j
+  pub goes : leaves w x j ≡ true
 
 -- the row by which a packet leaves
-pub record RowLeaving (w : Store) (c j : ℕ) : Type 0 where
+pub record RowLeaving (w : Store) (x j : ℕ) : Type 0 where
   pub row : ℕ
-  pub picks : pickOf w (routeOf w c j) ≡ suc row
-  pub channel : rowChannelOf w (routeOf w c j) row ≡ c
-  pub place : rowPlaceOf w (routeOf w c j) row ≡ j
+  pub picks : pickOf w (routeOf w x j) ≡ suc row
+  pub channel : rowChannelOf w (routeOf w x j) row ≡ x
+  pub place : rowPlaceOf w (routeOf w x j) row ≡ j
 
 module _ {w : Store} (s : Sound w) where
   pub leaving : (l k : ℕ) → l < linksOf w → pickOf w l ≡ suc k → Leaving w l (rowChannelOf w l k) (rowPlaceOf w l k)
@@ -50,23 +50,23 @@ module _ {w : Store} (s : Sound w) where
         goes = rw (r .here, e) (eq-eqb (rowChannelOf w l k) (rowChannelOf w l k) refl);
       }
 
-  module _ (c j : ℕ) (h : IsChannel w c) (i : j < hopsOf w c) where
+  module _ (x j : ℕ) (h : IsChannel w x) (i : j < hopsOf w x) where
     abbrev l : ℕ
-    l = routeOf w c j
+    l = routeOf w x j
 
-    pub row-leaving : leaves w c j ≡ true → RowLeaving w c j
+    pub row-leaving : leaves w x j ≡ true → RowLeaving w x j
     row-leaving e = go (pickOf w l) refl e
       where
-        go : (p : ℕ) → pickOf w l ≡ p → isOf w l c p ≡ true → RowLeaving w c j
+        go : (p : ℕ) → pickOf w l ≡ p → isOf w l x p ≡ true → RowLeaving w x j
         go zero f g = absurd (let z : _≡_ {A = ℕ} 0 1 = cc in omega arith)
         go (suc k) f g =
-            let a : rowChannelOf w l k ≡ c = eqb-true _ _ g in
-            let r : RowIs w l k = s .rows l (s .channel c h .route .known j i) .rows k (picked w l k f .0) in
-            let m : rowPlaceOf w l k < hopsOf w c = rw a at (r .place) in
-            record { row = k; picks = f; channel = a; place = place-once (s .channel c h .route) _ j m i (rw a at (r .here)) }
+            let a : rowChannelOf w l k ≡ x = eqb-true _ _ g in
+            let r : RowIs w l k = s .rows l (s .channel x h .route .known j i) .rows k (picked w l k f .0) in
+            let m : rowPlaceOf w l k < hopsOf w x = rw a at (r .place) in
+            record { row = k; picks = f; channel = a; place = place-once (s .channel x h .route) _ j m i (rw a at (r .here)) }
 
-    pub leaving-held : leaves w c j ≡ true → sentOf w c j < enteredOf w c j
+    pub leaving-held : leaves w x j ≡ true → sentOf w x j < enteredOf w x j
     leaving-held e =
         let r = row-leaving e in
-        let g = leaving l (r .row) (s .channel c h .route .known j i) (r .picks) in
+        let g = leaving l (r .row) (s .channel x h .route .known j i) (r .picks) in
         rw (r .channel, r .place) at (g .held)

@@ -21,78 +21,78 @@ use Rattle.slot_keeps.proofs.After.{moved-settled, messages-after, end-
 use Rattle.slot_keeps.proofs.Course.{course}
 
 -- how many packets message r has
-abbrev pub packetsOf : Store → (c r : ℕ) → ℕ
-packetsOf w c r = endOf w c r - endOf w c (r - 1)
+abbrev pub packetsOf : Store → (x r : ℕ) → ℕ
+packetsOf w x r = endOf w x r - endOf w x (r - 1)
 
 -- the next packet of the same message, which has one
-pub record SameMessage (w w′ : Store) (c j : ℕ) : Type 0 where
-  pub message : messageOf w′ c j ≡ messageOf w c j
-  pub packet : packetOf w′ c j ≡ packetOf w c j + 1
-  pub inside : packetOf w c j + 1 < packetsOf w c (messageOf w c j)
+pub record SameMessage (w w′ : Store) (x j : ℕ) : Type 0 where
+  pub message : messageOf w′ x j ≡ messageOf w x j
+  pub packet : packetOf w′ x j ≡ packetOf w x j + 1
+  pub inside : packetOf w x j + 1 < packetsOf w x (messageOf w x j)
 
 -- the first packet of the next message, after the last one of its own
-pub record NextMessage (w w′ : Store) (c j : ℕ) : Type 0 where
-  pub message : messageOf w′ c j ≡ messageOf w c j + 1
-  pub packet : packetOf w′ c j ≡ 0
-  pub last : packetOf w c j + 1 ≡ packetsOf w c (messageOf w c j)
+pub record NextMessage (w w′ : Store) (x j : ℕ) : Type 0 where
+  pub message : messageOf w′ x j ≡ messageOf w x j + 1
+  pub packet : packetOf w′ x j ≡ 0
+  pub last : packetOf w x j + 1 ≡ packetsOf w x (messageOf w x j)
 
-module _ {w : Store} (s : Sound w) (c j : ℕ) (h : IsChannel w c) (i : j < hopsOf w c) where
-  -- the message of packet x after the slot, and before it
-  message-kept : (x : ℕ)
-      → messageWith (moved w) c x (messagesOf (moved w) c) (ring - 1) ≡ messageWith w c x (messagesOf w c) (ring - 1)
-  message-kept x =
-      let few = few-channels s c h in
-      rw (messages-after s c few) (message-same w (moved w) c x (messagesOf w c) (ring - 1) (λ m a b. end-after s c few m))
+module _ {w : Store} (s : Sound w) (x j : ℕ) (h : IsChannel w x) (i : j < hopsOf w x) where
+  -- the message of packet u after the slot, and before it
+  message-kept : (u : ℕ)
+      → messageWith (moved w) x u (messagesOf (moved w) x) (ring - 1) ≡ messageWith w x u (messagesOf w x) (ring - 1)
+  message-kept u =
+      let few = few-channels s x h in
+      rw (messages-after s x few) (message-same w (moved w) x u (messagesOf w x) (ring - 1) (λ m a b. end-after s x few m))
 
   -- where no packet leaves, the same one goes next
-  pub same-next : leaves w c j ≡ false → (messageOf (moved w) c j ≡ messageOf w c j) × (packetOf (moved w) c j ≡ packetOf w c j)
-  same-next e = (message, rw (message, sent, end-after s c (few-channels s c h) (messageOf w c j - 1)))
+  pub same-next : leaves w x j ≡ false → (messageOf (moved w) x j ≡ messageOf w x j) × (packetOf (moved w) x j ≡ packetOf w x j)
+  same-next e = (message, rw (message, sent, end-after s x (few-channels s x h) (messageOf w x j - 1)))
     where
-      sent : sentOf (moved w) c j ≡ sentOf w c j
-      sent = sent-stays s c j h i e
+      sent : sentOf (moved w) x j ≡ sentOf w x j
+      sent = sent-stays s x j h i e
 
-      message : messageOf (moved w) c j ≡ messageOf w c j
-      message = rw sent (message-kept (sentOf w c j))
+      message : messageOf (moved w) x j ≡ messageOf w x j
+      message = rw sent (message-kept (sentOf w x j))
 
   -- where one leaves, and another is held then
-  pub next-in-order : leaves w c j ≡ true → sentOf (moved w) c j < enteredOf (moved w) c j
-      → SameMessage w (moved w) c j ⊎ NextMessage w (moved w) c j
-  next-in-order e held = go (message-next w c x past (messagesOf w c) (ring - 1) (k .order) more)
+  pub next-in-order : leaves w x j ≡ true → sentOf (moved w) x j < enteredOf (moved w) x j
+      → SameMessage w (moved w) x j ⊎ NextMessage w (moved w) x j
+  next-in-order e held = go (message-next w x u past (messagesOf w x) (ring - 1) (k .order) more)
     where
-      k : ChannelIs w c
-      k = s .channel c h
+      k : ChannelIs w x
+      k = s .channel x h
 
-      x : ℕ
-      x = sentOf w c j
+      u : ℕ
+      u = sentOf w x j
 
-      sent : sentOf (moved w) c j ≡ sentOf w c j + 1
-      sent = sent-goes s c j h i e
+      sent : sentOf (moved w) x j ≡ sentOf w x j + 1
+      sent = sent-goes s x j h i e
 
-      past : deliveredOf w c ≤ x
+      past : deliveredOf w x ≤ u
       past = sent-least k j i
 
-      more : x + 1 < acceptedOf w c
+      more : u + 1 < acceptedOf w x
       more =
-          let l : ChannelIs (moved w) c = channel-kept (moved-settled s) s c h (course s c h) in
-          let m = entered-most l j (rw (hops-kept (moved-settled s) c (few-channels s c h)) i) in
-          omega (arith, sent, accepted-after s c (few-channels s c h))
+          let l : ChannelIs (moved w) x = channel-kept (moved-settled s) s x h (course s x h) in
+          let m = entered-most l j (rw (hops-kept (moved-settled s) x (few-channels s x h)) i) in
+          omega (arith, sent, accepted-after s x (few-channels s x h))
 
       r′ : ℕ
-      r′ = messageWith w c (x + 1) (messagesOf w c) (ring - 1)
+      r′ = messageWith w x (u + 1) (messagesOf w x) (ring - 1)
 
-      now : MessageIs w c x (messagesOf w c) (ring - 1) mostNumber (messageOf w c j)
-      now = message-is k j i (leaving-held s c j h i e)
+      now : MessageIs w x u (messagesOf w x) (ring - 1) mostNumber (messageOf w x j)
+      now = message-is k j i (leaving-held s x j h i e)
 
-      next : MessageIs w c (x + 1) (messagesOf w c) (ring - 1) mostNumber r′
-      next = message-found w c (x + 1) (omega (arith, past)) (messagesOf w c) (ring - 1) mostNumber (k .order) more (k .time-most)
+      next : MessageIs w x (u + 1) (messagesOf w x) (ring - 1) mostNumber r′
+      next = message-found w x (u + 1) (omega (arith, past)) (messagesOf w x) (ring - 1) mostNumber (k .order) more (k .time-most)
 
-      message : messageOf (moved w) c j ≡ r′
-      message = rw sent (message-kept (x + 1))
+      message : messageOf (moved w) x j ≡ r′
+      message = rw sent (message-kept (u + 1))
 
-      packet : packetOf (moved w) c j ≡ x + 1 - endOf w c (r′ - 1)
-      packet = rw (message, sent, end-after s c (few-channels s c h) (r′ - 1))
+      packet : packetOf (moved w) x j ≡ u + 1 - endOf w x (r′ - 1)
+      packet = rw (message, sent, end-after s x (few-channels s x h) (r′ - 1))
 
-      go : NextIs w c x (messageOf w c j) r′ → SameMessage w (moved w) c j ⊎ NextMessage w (moved w) c j
+      go : NextIs w x u (messageOf w x j) r′ → SameMessage w (moved w) x j ⊎ NextMessage w (moved w) x j
       go (inl a) = inl (record {
         message = rw message a;
         packet = rw (packet, a) (omega (arith, now .starts));
@@ -100,6 +100,6 @@ module _ {w : Store} (s : Sound w) (c j : ℕ) (h : IsChannel w c) (i : j < hops
       })
       go (inr a) = inr (record {
         message = rw message (a .0);
-        packet = let b : messageOf w c j + 1 - 1 ≡ messageOf w c j = omega arith in rw (packet, a .0, b) (omega (arith, a .1));
+        packet = let b : messageOf w x j + 1 - 1 ≡ messageOf w x j = omega arith in rw (packet, a .0, b) (omega (arith, a .1));
         last = omega (arith, a .1, now .starts);
       })

@@ -25,90 +25,90 @@ use Rattle.slot_keeps.proofs.After.{moved-settled, accepted-after, cloc
 use Rattle.slot_keeps.proofs.Course.{course}
 
 -- what is held at the first place, and at a later one
-held-first : (w : Store) (c : ℕ) → heldOf w c 0 ≡ acceptedOf w c - sentOf w c 0
+held-first : (w : Store) (x : ℕ) → heldOf w x 0 ≡ acceptedOf w x - sentOf w x 0
 unfolding enteredOf
-held-first w c = refl
+held-first w x = refl
 
-held-later : (w : Store) (c j : ℕ) → heldOf w c (suc j) ≡ sentOf w c j - sentOf w c (suc j)
+held-later : (w : Store) (x j : ℕ) → heldOf w x (suc j) ≡ sentOf w x j - sentOf w x (suc j)
 unfolding enteredOf
-held-later w c j = refl
+held-later w x j = refl
 
-flows-later : (w : Store) (c j : ℕ) → sentOf w c (suc j) ≤ enteredOf w c (suc j) → sentOf w c (suc j) ≤ sentOf w c j
+flows-later : (w : Store) (x j : ℕ) → sentOf w x (suc j) ≤ enteredOf w x (suc j) → sentOf w x (suc j) ≤ sentOf w x j
 unfolding enteredOf
-flows-later w c j h = h
+flows-later w x j h = h
 
 module _ {w : Store} (s : Sound w) where
   module _ (rooms : (l : ℕ) → l < linksOf w → roomAfter w l ≡ true) where
     -- at the place after one where a packet leaves
-    room-next : (c j : ℕ) → IsChannel w c → suc j < hopsOf w c → leaves w c j ≡ true → RoomIs w c (suc j)
-    room-next c j h i e =
-        let k : j < hopsOf w c = omega arith in
-        let r = row-leaving s c j h k e in
-        room-is w c (suc j)
-        (rw (r .picks, roomFrom, r .channel, r .place, add-one j, lt-leb (hopsOf w c) (suc j) i) at
-        (rooms (routeOf w c j) (s .channel c h .route .known j k)))
+    room-next : (x j : ℕ) → IsChannel w x → suc j < hopsOf w x → leaves w x j ≡ true → RoomIs w x (suc j)
+    room-next x j h i e =
+        let k : j < hopsOf w x = omega arith in
+        let r = row-leaving s x j h k e in
+        room-is w x (suc j)
+        (rw (r .picks, roomFrom, r .channel, r .place, add-one j, lt-leb (hopsOf w x) (suc j) i) at
+        (rooms (routeOf w x j) (s .channel x h .route .known j k)))
 
-    held-after : (c j : ℕ) → IsChannel w c → j < hopsOf w c → heldOf (moved w) c j ≤ reservedOf w c j
-    held-after c zero h i =
-        let a = held-most s c zero h i in
-        let b = accepted-after s c (few-channels s c h) in
-        rw (held-first (moved w) c) (omega (arith, held-first w c, sent-rises s c zero h i))
-    held-after c (suc j) h i = rw (held-later (moved w) c j) (go (leaves w c j) refl)
+    held-after : (x j : ℕ) → IsChannel w x → j < hopsOf w x → heldOf (moved w) x j ≤ reservedOf w x j
+    held-after x zero h i =
+        let a = held-most s x zero h i in
+        let b = accepted-after s x (few-channels s x h) in
+        rw (held-first (moved w) x) (omega (arith, held-first w x, sent-rises s x zero h i))
+    held-after x (suc j) h i = rw (held-later (moved w) x j) (go (leaves w x j) refl)
       where
-        k : j < hopsOf w c
+        k : j < hopsOf w x
         k = omega arith
 
-        old : sentOf w c j - sentOf w c (suc j) ≤ reservedOf w c (suc j)
-        old = rw (held-later w c j) at (held-most s c (suc j) h i)
+        old : sentOf w x j - sentOf w x (suc j) ≤ reservedOf w x (suc j)
+        old = rw (held-later w x j) at (held-most s x (suc j) h i)
 
-        come : leaves w c j ≡ true → RoomIs w c (suc j)
-            → sentOf (moved w) c j - sentOf (moved w) c (suc j) ≤ reservedOf w c (suc j)
-        come e (inl f) = omega (arith, held-later w c j, sent-goes s c j h k e, sent-rises s c (suc j) h i)
-        come e (inr f) = omega (arith, old, sent-goes s c j h k e, sent-goes s c (suc j) h i f)
+        come : leaves w x j ≡ true → RoomIs w x (suc j)
+            → sentOf (moved w) x j - sentOf (moved w) x (suc j) ≤ reservedOf w x (suc j)
+        come e (inl f) = omega (arith, held-later w x j, sent-goes s x j h k e, sent-rises s x (suc j) h i)
+        come e (inr f) = omega (arith, old, sent-goes s x j h k e, sent-goes s x (suc j) h i f)
 
-        go : (b : Bool) → leaves w c j ≡ b → sentOf (moved w) c j - sentOf (moved w) c (suc j) ≤ reservedOf w c (suc j)
-        go false e = omega (arith, old, sent-stays s c j h k e, sent-rises s c (suc j) h i)
-        go true e = come e (room-next c j h i e)
+        go : (b : Bool) → leaves w x j ≡ b → sentOf (moved w) x j - sentOf (moved w) x (suc j) ≤ reservedOf w x (suc j)
+        go false e = omega (arith, old, sent-stays s x j h k e, sent-rises s x (suc j) h i)
+        go true e = come e (room-next x j h i e)
 
     pub rooms-sound : clockOf w < endSlot → Sound (moved w)
     rooms-sound h = settled-sound (moved-settled s) s (omega (arith, clock-after s)) (course s) held-after
 
   -- and back: a packet that leaves has room
   module _ (t : Sound (moved w)) where
-    held-within : (c j : ℕ) → IsChannel w c → j < hopsOf w c → heldOf (moved w) c j ≤ reservedOf w c j
-    held-within c j h i =
-        rw (reserved-kept (moved-settled s) s c h j i) at
-        (held-most t c j (rw (channels-same (moved-settled s)) h) (rw (hops-kept (moved-settled s) c (few-channels s c h)) i))
+    held-within : (x j : ℕ) → IsChannel w x → j < hopsOf w x → heldOf (moved w) x j ≤ reservedOf w x j
+    held-within x j h i =
+        rw (reserved-kept (moved-settled s) s x h j i) at
+        (held-most t x j (rw (channels-same (moved-settled s)) h) (rw (hops-kept (moved-settled s) x (few-channels s x h)) i))
 
     -- else one more would be held there than is reserved
-    room-found : (c j : ℕ) → IsChannel w c → suc j < hopsOf w c → leaves w c j ≡ true → (b : Bool) → leaves w c (suc j) ≡ b
-        → RoomIs w c (suc j)
-    room-found c j h i e true f = inr f
-    room-found c j h i e false f =
-        let k : j < hopsOf w c = omega arith in
-        let m = rw (held-later (moved w) c j) at (held-within c (suc j) h i) in
-        let n = flows-later w c j (s .channel c h .flows (suc j) i) in
-        inl (rw (held-later w c j) (omega (arith, sent-goes s c j h k e, sent-stays s c (suc j) h i f)))
+    room-found : (x j : ℕ) → IsChannel w x → suc j < hopsOf w x → leaves w x j ≡ true → (b : Bool) → leaves w x (suc j) ≡ b
+        → RoomIs w x (suc j)
+    room-found x j h i e true f = inr f
+    room-found x j h i e false f =
+        let k : j < hopsOf w x = omega arith in
+        let m = rw (held-later (moved w) x j) at (held-within x (suc j) h i) in
+        let n = flows-later w x j (s .channel x h .flows (suc j) i) in
+        inl (rw (held-later w x j) (omega (arith, sent-goes s x j h k e, sent-stays s x (suc j) h i f)))
 
     pub sound-rooms : (l : ℕ) → l < linksOf w → roomAfter w l ≡ true
     sound-rooms l h = go (pickOf w l) refl
       where
         go : (p : ℕ) → pickOf w l ≡ p → roomFrom w l p ≡ true
         go zero e = refl
-        go (suc k) e = last (leb (hopsOf w c) (suc j)) refl
+        go (suc k) e = last (leb (hopsOf w x) (suc j)) refl
           where
-            c : ℕ
-            c = rowChannelOf w l k
+            x : ℕ
+            x = rowChannelOf w l k
 
             j : ℕ
             j = rowPlaceOf w l k
 
-            last : (b : Bool) → leb (hopsOf w c) (suc j) ≡ b → (leb (hopsOf w c) (j + 1) || hasRoom w c (j + 1)) ≡ true
+            last : (b : Bool) → leb (hopsOf w x) (suc j) ≡ b → (leb (hopsOf w x) (j + 1) || hasRoom w x (j + 1)) ≡ true
             last true f = rw (add-one j, f)
             last false f =
                 let g = leaving s l k h e in
                 rw (add-one j, f)
-                (is-room w c (suc j) (room-found c j (g .channel) (leb-false (hopsOf w c) (suc j) f) (g .goes) _ refl))
+                (is-room w x (suc j) (room-found x j (g .channel) (leb-false (hopsOf w x) (suc j) f) (g .goes) _ refl))
 
 pub moved-sound : (w : Store) → soundOf w ≡ true → clockOf w < endSlot → soundOf (moved w) ≡ every (roomAfter w) (linksOf w)
 moved-sound w sound h =

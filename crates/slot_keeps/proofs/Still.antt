@@ -14,18 +14,18 @@ use Rattle.store_same.proofs.Few.{few-places}
 use Rattle.slot_keeps.proofs.Leaves.{leaving}
 use Rattle.slot_keeps.proofs.After.{beside-clock}
 
-pub still-record : {w : Store} → Sound w → (c : ℕ) → ((j : ℕ) → j < hopsOf w c → leaves w c j ≡ false) → SameRecord w (moved w) c
-still-record {w} s c still = record {
+pub still-record : {w : Store} → Sound w → (x : ℕ) → ((j : ℕ) → j < hopsOf w x → leaves w x j ≡ false) → SameRecord w (moved w) x
+still-record {w} s x still = record {
   number = λ at from to.
       rw (beside-clock s at (λ e. omega arith)) (to-beside w (linksOf w) at (λ l k h e a. other l k h e at from to a));
 }
   where
-    other : (l k : ℕ) → l < linksOf w → pickOf w l ≡ suc k → (at : ℕ) → channelAt c ≤ at → at < channelAt c + recordLength
+    other : (l k : ℕ) → l < linksOf w → pickOf w l ≡ suc k → (at : ℕ) → channelAt x ≤ at → at < channelAt x + recordLength
         → at ≡ rowSentAt w l k → ⊥
     other l k h e at from to a =
         let g = leaving s l k h e in
         let m = few-places s (rowChannelOf w l k) (rowPlaceOf w l k) (g .channel) (g .place) in
-        let n : rowChannelOf w l k ≡ c = omega arith in
+        let n : rowChannelOf w l k ≡ x = omega arith in
         let t = rw n at (g .goes) in
         let f = still (rowPlaceOf w l k) (rw n at (g .place)) in
         let z : _≡_ {A = ℕ} 0 1 = cc in

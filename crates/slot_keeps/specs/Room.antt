@@ -7,18 +7,18 @@ use Rattle.store.specs.Layout.{Store, hopsOf, routeOf, rowChannelOf, rowPlaceOf
 use Rattle.store.specs.Amounts.{reservedOf, heldOf}
 use Rattle.slot_rules.specs.Pick.{pickOf}
 
--- the row picked is one of channel c
-abbrev pub isOf : Store → (l c position : ℕ) → Bool
-isOf w l c zero = false
-isOf w l c (suc k) = eqb (rowChannelOf w l k) c
+-- the row picked is one of channel x
+abbrev pub isOf : Store → (l x position : ℕ) → Bool
+isOf w l x zero = false
+isOf w l x (suc k) = eqb (rowChannelOf w l k) x
 
--- at place j of its route a packet of channel c leaves in this slot
-abbrev pub leaves : Store → (c j : ℕ) → Bool
-leaves w c j = isOf w (routeOf w c j) c (pickOf w (routeOf w c j))
+-- at place j of its route a packet of channel x leaves in this slot
+abbrev pub leaves : Store → (x j : ℕ) → Bool
+leaves w x j = isOf w (routeOf w x j) x (pickOf w (routeOf w x j))
 
 -- and one more may come: fewer are held there than are reserved, or one leaves
-abbrev pub hasRoom : Store → (c j : ℕ) → Bool
-hasRoom w c j = ltb (heldOf w c j) (reservedOf w c j) || leaves w c j
+abbrev pub hasRoom : Store → (x j : ℕ) → Bool
+hasRoom w x j = ltb (heldOf w x j) (reservedOf w x j) || leaves w x j
 
 -- the packet of the row picked is on its last link, or has room on the next one
 abbrev pub roomFrom : Store → (l position : ℕ) → Bool

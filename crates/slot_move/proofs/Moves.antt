@@ -62,13 +62,13 @@ module _ (w : Store) (sound : soundOf w ≡ true) (l : ℕ) (store : Store) (m :
       channel-there =
           let few : k < mostRows = row-few w sound l h k e in
           let near : l < mostLinks = link-few w sound l h in
-          rw (m .same) (to-frame s l (rowChannelAt l k) (m .place) (λ c j a b f. omega arith))
+          rw (m .same) (to-frame s l (rowChannelAt l k) (m .place) (λ x j a b f. omega arith))
 
       place-there : rowPlaceOf store l k ≡ rowPlaceOf w l k
       place-there =
           let few : k < mostRows = row-few w sound l h k e in
           let near : l < mostLinks = link-few w sound l h in
-          rw (m .same) (to-frame s l (rowPlaceAt l k) (m .place) (λ c j a b f. omega arith))
+          rw (m .same) (to-frame s l (rowPlaceAt l k) (m .place) (λ x j a b f. omega arith))
 
       sent-there : sentOf store (rowChannelOf w l k) (rowPlaceOf w l k) ≡ sentOf w (rowChannelOf w l k) (rowPlaceOf w l k)
       sent-there =

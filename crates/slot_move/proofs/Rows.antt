@@ -1,4 +1,4 @@
--- The row that a link picked, as the code reads it: position p of the picks; channel c, place j.
+-- The row that a link picked, as the code reads it: position p of the picks; channel x, place j.
 use Prim.Native.Nat.{ℕ, suc, _-_, _≤_, _<_}
 use mathlib.Core.Path.{_≡_, sym, _∙_}
 use mathlib.Core.Bool.{true}
@@ -32,11 +32,11 @@ module _ (w : Store) (sound : soundOf w ≡ true) (picks : List ℕ) (all : pick
   a-row z = omega (arith, position)
 
 -- the row that it picked: its place can be read, and the packet that goes next there is one of a message
-pub record Row (w : Store) (l c j : ℕ) : Type 0 where
-  pub leaves : Leaving w l c j
-  pub ready : Long w × ((c < mostChannels) × (j < mostHops))
-  pub message : MessageIs w c (sentOf w c j) (messagesOf w c) (ring - 1) mostNumber (messageOf w c j)
-  pub sent-few : sentOf w c j ≤ mostPackets
+pub record Row (w : Store) (l x j : ℕ) : Type 0 where
+  pub leaves : Leaving w l x j
+  pub ready : Long w × ((x < mostChannels) × (j < mostHops))
+  pub message : MessageIs w x (sentOf w x j) (messagesOf w x) (ring - 1) mostNumber (messageOf w x j)
+  pub sent-few : sentOf w x j ≤ mostPackets
 
 module _ (w : Store) (sound : soundOf w ≡ true) (l : ℕ) (h : l < linksOf w) where
   s : Sound w
@@ -52,10 +52,10 @@ module _ (w : Store) (sound : soundOf w ≡ true) (l : ℕ) (h : l < linksOf w) 
     pub row-ready : Long w × ((l < mostLinks) × (k < mostRows))
     row-ready = (s .long, (link-few, row-few))
 
-    pub row-at : (c j : ℕ) → c ≡ rowChannelOf w l k → j ≡ rowPlaceOf w l k → Row w l c j
-    row-at c j a b = record {
+    pub row-at : (x j : ℕ) → x ≡ rowChannelOf w l k → j ≡ rowPlaceOf w l k → Row w l x j
+    row-at x j a b = record {
       leaves = leaves;
-      ready = (s .long, (few-channels s c (leaves .channel), few-places s c j (leaves .channel) (leaves .place)));
+      ready = (s .long, (few-channels s x (leaves .channel), few-places s x j (leaves .channel) (leaves .place)));
       message = message-is kept j (leaves .place) (leaves .held);
       sent-few = omega (
         arith,
@@ -66,8 +66,8 @@ module _ (w : Store) (sound : soundOf w ≡ true) (l : ℕ) (h : l < linksOf w) 
       );
     }
       where
-        leaves : Leaving w l c j
+        leaves : Leaving w l x j
         leaves = rw (a, b) (leaving s l k h e)
 
-        kept : ChannelIs w c
-        kept = s .channel c (leaves .channel)
+        kept : ChannelIs w x
+        kept = s .channel x (leaves .channel)

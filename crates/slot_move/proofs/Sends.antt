@@ -17,14 +17,14 @@ use Rattle.slot_rules.specs.Slot.{Send, numbers, sendAt, sendsTo, slotSends, wr
 use Rattle.slot_rules.proofs.Laws.Sends.{numbers-length, numbers-more, sends-most, written-none, written-length}
 use Rattle.slot_move.specs.Sends.{sendPut}
 
--- a send as its numbers were read: channel c, place j, message m of which packets up to e are of those before it, s packets sent
-pub send-is : (w : Store) (slot l k c j m e s : ℕ) → slot ≡ clockOf w → c ≡ rowChannelOf w l k → j ≡ rowPlaceOf w l k
-    → m ≡ messageOf w c j → e ≡ endOf w c (m - 1) → s ≡ sentOf w c j
-    → record { slot = slot; link = l; channel = c; message = m - 1; packet = s - e }
+-- a send as its numbers were read: channel x, place j, message m of which packets up to e are of those before it, s packets sent
+pub send-is : (w : Store) (slot l k x j m e s : ℕ) → slot ≡ clockOf w → x ≡ rowChannelOf w l k → j ≡ rowPlaceOf w l k
+    → m ≡ messageOf w x j → e ≡ endOf w x (m - 1) → s ≡ sentOf w x j
+    → record { slot = slot; link = l; channel = x; message = m - 1; packet = s - e }
     ≡ sendAt w l (rowChannelOf w l k) (rowPlaceOf w l k)
-send-is w slot l k c j m e s now a b of front all = rw (now, front, all, of, a, b)
+send-is w slot l k x j m e s now a b of front all = rw (now, front, all, of, a, b)
 
-module _ (sends : List Send) (x : Send) (out : List ℕ) where
+module _ (sends : List Send) (u : Send) (out : List ℕ) where
   abbrev at : ℕ
   at = 5 * length sends
 
@@ -36,21 +36,21 @@ module _ (sends : List Send) (x : Send) (out : List ℕ) where
       sym (drop-drop 5 at (written sends out)) ∙ (ap (drop 5) (drop-at (numbers sends) (drop at out) at (numbers-length sends))
       ∙ drop-drop 5 at out)
 
-  five : at + 5 ≤ length out → sets (written sends out) at (numbers (x ∷ [])) ≡ written (sends ++ (x ∷ [])) out
+  five : at + 5 ≤ length out → sets (written sends out) at (numbers (u ∷ [])) ≡ written (sends ++ (u ∷ [])) out
   unfolding numbers
   five h =
       let r : at + 5 ≤ length (written sends out) = omega (arith, written-length sends out (omega arith)) in
-      let e : 5 * length (sends ++ (x ∷ [])) ≡ at + 5 = simp length-append (omega arith) in
-      sets-eq (numbers (x ∷ [])) (written sends out) at r
-      ∙ rw (front, back, e, numbers-more sends (x ∷ []), append-assoc (numbers sends) (numbers (x ∷ [])) (drop (at + 5) out))
+      let e : 5 * length (sends ++ (u ∷ [])) ≡ at + 5 = simp length-append (omega arith) in
+      sets-eq (numbers (u ∷ [])) (written sends out) at r
+      ∙ rw (front, back, e, numbers-more sends (u ∷ []), append-assoc (numbers sends) (numbers (u ∷ [])) (drop (at + 5) out))
 
-  pub put-more : at + 5 ≤ length out → sendPut (written sends out) at x ≡ written (sends ++ (x ∷ [])) out
+  pub put-more : at + 5 ≤ length out → sendPut (written sends out) at u ≡ written (sends ++ (u ∷ [])) out
   unfolding numbers
   put-more h =
       let a : at + 2 ≡ suc (suc at) = omega arith in
       let b : at + 3 ≡ suc (suc (suc at)) = omega arith in
-      let c : at + 4 ≡ suc (suc (suc (suc at))) = omega arith in
-      rw (add-one at, a, b, c) (five h)
+      let x : at + 4 ≡ suc (suc (suc (suc at))) = omega arith in
+      rw (add-one at, a, b, x) (five h)
 
 -- the sends of the first l links stand at the front
 pub record Sending (w : Store) (old : List ℕ) (n l : ℕ) (out : List ℕ) : Type 0 where
@@ -93,14 +93,14 @@ module _ (w : Store) (old : List ℕ) where
       sending-size = rw (s .same) (written-length (sendsTo w l) old (omega (arith, s .place, s .count, sending-few)))
 
       -- and one that sends
-      pub sending-more : l < linksOf w → (k : ℕ) → pickOf w l ≡ suc k → (x : Send)
-          → x ≡ sendAt w l (rowChannelOf w l k) (rowPlaceOf w l k)
-          → (later : List ℕ) → later ≡ sendPut out (5 * n) x → Sending w old (n + 1) (l + 1) later
+      pub sending-more : l < linksOf w → (k : ℕ) → pickOf w l ≡ suc k → (u : Send)
+          → u ≡ sendAt w l (rowChannelOf w l k) (rowPlaceOf w l k)
+          → (later : List ℕ) → later ≡ sendPut out (5 * n) u → Sending w old (n + 1) (l + 1) later
       unfolding sendsTo
-      sending-more h k e x same later put = record {
+      sending-more h k e u same later put = record {
         few = s .few;
         place = omega arith;
         count = rw (add-one l, sendsTo, e, length-append) (omega (arith, s .count));
         same = rw (add-one l, sendsTo, e, put, s .same, s .count, ← same)
-            (put-more (sendsTo w l) x old (omega (arith, sends-most w l)));
+            (put-more (sendsTo w l) u old (omega (arith, sends-most w l)));
       }

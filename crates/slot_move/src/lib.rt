@@ -33,14 +33,14 @@ fn put_send(store: &[u64], out: &mut [u64], n: usize, slot: u64, l: usize, k: us
     ensures { λ _. ⌜ now (out .exit) ≡ sendPut (now (out .entry)) (5 * n) (sendAt (now (store .entry)) l
         (rowChannelOf (now (store .entry)) l k) (rowPlaceOf (now (store .entry)) l k)) ⌝ }
 {
-    let c = link::row_channel(store, l, k);
+    let x = link::row_channel(store, l, k);
     let j = link::row_place(store, l, k);
-    let message = slot_packet::message(store, c, j) - 1;
-    let packet = channel::sent(store, c, j) - channel::end(store, c, message);
+    let message = slot_packet::message(store, x, j) - 1;
+    let packet = channel::sent(store, x, j) - channel::end(store, x, message);
     let at = 5 * n;
     out[at] = slot;
     out[at + 1] = l as u64;
-    out[at + 2] = c as u64;
+    out[at + 2] = x as u64;
     out[at + 3] = message;
     out[at + 4] = packet;
 }
@@ -78,10 +78,10 @@ fn advance(store: &mut [u64], l: usize, k: usize)
     requires { ⌜ sentOf (now store) (rowChannelOf (now store) l k) (rowPlaceOf (now store) l k) ≤ mostPackets ⌝ }
     ensures { λ _. ⌜ now (store .exit) ≡ moveFrom (now (store .entry)) l (suc k) (now (store .entry)) ⌝ }
 {
-    let c = link::row_channel(store, l, k);
+    let x = link::row_channel(store, l, k);
     let j = link::row_place(store, l, k);
-    let sent = channel::sent(store, c, j);
-    channel::put_sent(store, c, j, sent + 1);
+    let sent = channel::sent(store, x, j);
+    channel::put_sent(store, x, j, sent + 1);
 }
 
 // The picked packets have moved on, and the clock has risen by one.

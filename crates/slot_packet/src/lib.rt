@@ -17,14 +17,14 @@ struct Found {
 }
 
 // The message that goes next at place `j` of a channel's route.
-fn next(store: &[u64], c: usize, j: usize) -> Found
+fn next(store: &[u64], x: usize, j: usize) -> Found
     requires { ⌜ Long (now store) ⌝ }
-    requires { ⌜ c < mostChannels ⌝ }
+    requires { ⌜ x < mostChannels ⌝ }
     requires { ⌜ j < mostHops ⌝ }
-    ensures { λ r. ⌜ r ≡ record { number = messageOf (now (store .entry)) c j; place = messageOf (now (store .entry)) c j % ring } ⌝ }
+    ensures { λ r. ⌜ r ≡ record { number = messageOf (now (store .entry)) x j; place = messageOf (now (store .entry)) x j % ring } ⌝ }
 {
-    let sent = channel::sent(store, c, j);
-    let mut n = channel::messages(store, c);
+    let sent = channel::sent(store, x, j);
+    let mut n = channel::messages(store, x);
     let mut at = channel::ring_place(n);
     let mut left = store::UNDELIVERED;
     while left > 0 {
@@ -32,7 +32,7 @@ fn next(store: &[u64], c: usize, j: usize) -> Found
             break;
         }
         let before = channel::place_before(at);
-        if channel::end_in(store, c, before) <= sent {
+        if channel::end_in(store, x, before) <= sent {
             break;
         }
         n -= 1;
@@ -46,38 +46,38 @@ fn next(store: &[u64], c: usize, j: usize) -> Found
 }
 
 // Its number, counted from 1.
-pub fn message(store: &[u64], c: usize, j: usize) -> u64
+pub fn message(store: &[u64], x: usize, j: usize) -> u64
     requires { ⌜ Long (now store) ⌝ }
-    requires { ⌜ c < mostChannels ⌝ }
+    requires { ⌜ x < mostChannels ⌝ }
     requires { ⌜ j < mostHops ⌝ }
-    ensures { λ r. ⌜ r ≡ messageOf (now (store .entry)) c j ⌝ }
+    ensures { λ r. ⌜ r ≡ messageOf (now (store .entry)) x j ⌝ }
 {
-    next(store, c, j).number
+    next(store, x, j).number
 }
 
 // The delays of a channel before place `j` of its route.
-fn offset(store: &[u64], c: usize, j: usize) -> u64
-    requires { ⌜ Ranged (now store) c ⌝ }
-    requires { ⌜ j < hopsOf (now store) c ⌝ }
-    ensures { λ r. ⌜ r ≡ sumTo (delayOf (now (store .entry)) c) j ⌝ }
+fn offset(store: &[u64], x: usize, j: usize) -> u64
+    requires { ⌜ Ranged (now store) x ⌝ }
+    requires { ⌜ j < hopsOf (now store) x ⌝ }
+    ensures { λ r. ⌜ r ≡ sumTo (delayOf (now (store .entry)) x) j ⌝ }
 {
     let mut sum: u64 = 0;
     let mut i: usize = 0;
     while i < j {
-        sum += channel::delay(store, c, i);
+        sum += channel::delay(store, x, i);
         i += 1;
     }
     sum
 }
 
 // The logical time of the packet that goes next at place `j` of a channel's route, where one is held.
-pub fn logical(store: &[u64], c: usize, j: usize) -> u64
+pub fn logical(store: &[u64], x: usize, j: usize) -> u64
     requires { ⌜ soundOf (now store) ≡ true ⌝ }
-    requires { ⌜ IsChannel (now store) c ⌝ }
-    requires { ⌜ j < hopsOf (now store) c ⌝ }
-    requires { ⌜ isHeld (now store) c j ≡ true ⌝ }
-    ensures { λ r. ⌜ r ≡ logicalOf (now (store .entry)) c j ⌝ }
+    requires { ⌜ IsChannel (now store) x ⌝ }
+    requires { ⌜ j < hopsOf (now store) x ⌝ }
+    requires { ⌜ isHeld (now store) x j ≡ true ⌝ }
+    ensures { λ r. ⌜ r ≡ logicalOf (now (store .entry)) x j ⌝ }
 {
-    let found = next(store, c, j);
-    channel::time_in(store, c, found.place) + offset(store, c, j)
+    let found = next(store, x, j);
+    channel::time_in(store, x, found.place) + offset(store, x, j)
 }

@@ -30,37 +30,37 @@ module _ (w : Store) (e : soundOf w ≡ true) (l : ℕ) (h : l < linksOf w) wher
   pub last-fits : {n b : ℕ} → n ≡ clockOf w → b ≡ horizonOf w l → Fits w64 (n + b)
   last-fits en eb = record { fits = omega (arith, s .counts .clock-most, s .link l h .good .horizon-most) }
 
--- Row k: channel c, at place j of its route.
-pub record Row (w : Store) (l k c j : ℕ) : Type 0 where
+-- Row k: channel x, at place j of its route.
+pub record Row (w : Store) (l k x j : ℕ) : Type 0 where
   pub sound : soundOf w ≡ true
   pub there : l < linksOf w
   pub below : k < rowsOf w l
-  pub its-channel : c ≡ rowChannelOf w l k
+  pub its-channel : x ≡ rowChannelOf w l k
   pub its-place : j ≡ rowPlaceOf w l k
 
-module _ {w : Store} {l k c j : ℕ} (r : Row w l k c j) where
+module _ {w : Store} {l k x j : ℕ} (r : Row w l k x j) where
   stands : RowIs w l k
   stands = sound-is w (r .sound) .rows l (r .there) .rows k (r .below)
 
-  pub row-channel : IsChannel w c
+  pub row-channel : IsChannel w x
   row-channel = rw (r .its-channel) (stands .channel)
 
-  pub row-place : j < hopsOf w c
+  pub row-place : j < hopsOf w x
   row-place = rw (r .its-channel, r .its-place) (stands .place)
 
-  pub row-ready : Long w × ((c < mostChannels) × (j < mostHops))
-  row-ready = place-ready w (r .sound) c j row-channel row-place
+  pub row-ready : Long w × ((x < mostChannels) × (j < mostHops))
+  row-ready = place-ready w (r .sound) x j row-channel row-place
 
   -- whether it holds a packet: s have been sent there, and n have come
-  module _ {s n : ℕ} (es : s ≡ sentOf w c j) (en : n ≡ enteredOf w c j) where
-    pub row-holds : s < n → isHeld w c j ≡ true
+  module _ {s n : ℕ} (es : s ≡ sentOf w x j) (en : n ≡ enteredOf w x j) where
+    pub row-holds : s < n → isHeld w x j ≡ true
     row-holds h = lt-ltb _ _ (rw (es, en) at h)
 
-    pub row-empty : n ≤ s → isHeld w c j ≡ false
+    pub row-empty : n ≤ s → isHeld w x j ≡ false
     row-empty h = le-ltb _ _ (rw (en, es) at h)
 
   -- a row that holds none is neither current nor early
-  module _ (f : isHeld w c j ≡ false) where
+  module _ (f : isHeld w x j ≡ false) where
     empty : rowHeld w l k ≡ false
     empty = rw (r .its-channel, r .its-place) at f
 
@@ -71,13 +71,13 @@ module _ {w : Store} {l k c j : ℕ} (r : Row w l k c j) where
     empty-early = rw empty
 
 -- The packet that row k holds: its logical time is t.
-pub record Held (w : Store) (l k c j now t : ℕ) : Type 0 where
-  pub row : Row w l k c j
-  pub held : isHeld w c j ≡ true
+pub record Held (w : Store) (l k x j now t : ℕ) : Type 0 where
+  pub row : Row w l k x j
+  pub held : isHeld w x j ≡ true
   pub now-is : now ≡ clockOf w
-  pub time-is : t ≡ logicalOf w c j
+  pub time-is : t ≡ logicalOf w x j
 
-module _ {w : Store} {l k c j now t : ℕ} (p : Held w l k c j now t) where
+module _ {w : Store} {l k x j now t : ℕ} (p : Held w l k x j now t) where
   holds : rowHeld w l k ≡ true
   holds = rw (p .row .its-channel, p .row .its-place) at (p .held)
 
@@ -105,7 +105,7 @@ module _ {w : Store} {l k c j now t : ℕ} (p : Held w l k c j now t) where
     soon-early = rw (holds, lt-leb (rowLogical w l k) (clockOf w) soon)
 
   -- and its deadline, with the delay d there
-  module _ {d : ℕ} (e : d ≡ delayOf w c j) where
+  module _ {d : ℕ} (e : d ≡ delayOf w x j) where
     pub held-deadline : t + d ≡ rowDeadline w l k
     held-deadline = rw (p .time-is, e, p .row .its-channel, p .row .its-place)
 
@@ -113,5 +113,5 @@ module _ {w : Store} {l k c j now t : ℕ} (p : Held w l k c j now t) where
     pub held-small : (now ≤ endSlot) × (d ≤ mostP)
     held-small =
         let r = p .row in
-        let small = delay-small w (r .sound) c j (row-channel r) (row-place r) in
+        let small = delay-small w (r .sound) x j (row-channel r) (row-place r) in
         (rw (p .now-is) (sound-is w (r .sound) .counts .clock-most), rw e small)

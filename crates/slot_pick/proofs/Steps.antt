@@ -19,20 +19,20 @@ use Rattle.slot_pick.proofs.Rows.{Row, Held, empty-current, empty-early
 use Rattle.slot_pick.proofs.Rows.{due-current, due-early, soon-current, soon-early}
 
 -- the test of `goesFirst`, case by case
-module _ (key c than other : ℕ) where
-  pub none-before : (best : ℕ) → best ≡ 0 → true ≡ goesFirst key c best than other
+module _ (key x than other : ℕ) where
+  pub none-before : (best : ℕ) → best ≡ 0 → true ≡ goesFirst key x best than other
   none-before zero e = refl
   none-before (suc i) e = absurd (omega arith)
 
-  pub lower-key : (best : ℕ) → key < than → true ≡ goesFirst key c best than other
+  pub lower-key : (best : ℕ) → key < than → true ≡ goesFirst key x best than other
   lower-key zero h = refl
   lower-key (suc i) h = rw (lt-ltb key than h)
 
-  pub higher-key : (best : ℕ) → (best ≡ 0 → ⊥) → than ≤ key → (key ≡ than → ⊥) → false ≡ goesFirst key c best than other
+  pub higher-key : (best : ℕ) → (best ≡ 0 → ⊥) → than ≤ key → (key ≡ than → ⊥) → false ≡ goesFirst key x best than other
   higher-key zero z h n = absurd (z refl)
   higher-key (suc i) z h n = rw (le-ltb key than h, ne-eqb key than n)
 
-  pub same-key : (best : ℕ) → (best ≡ 0 → ⊥) → than ≤ key → key ≡ than → ltb c other ≡ goesFirst key c best than other
+  pub same-key : (best : ℕ) → (best ≡ 0 → ⊥) → than ≤ key → key ≡ than → ltb x other ≡ goesFirst key x best than other
   same-key zero z h e = absurd (z refl)
   same-key (suc i) z h e = rw (le-ltb key than h, eq-eqb key than e)
 
@@ -52,16 +52,16 @@ module _ {may : ℕ → Bool} {key channel : ℕ → ℕ} {n best than other : �
   unfolding bestOf
   leading-pass e = record { best-is = rw (add-one n, e, bestOf) (a .best-is); key-is = a .key-is; channel-is = a .channel-is }
 
-  -- row n, with the key v and the channel c, may go
-  module _ (m : may n ≡ true) {v c : ℕ} (ev : v ≡ key n) (ec : c ≡ channel n) where
+  -- row n, with the key v and the channel x, may go
+  module _ (m : may n ≡ true) {v x : ℕ} (ev : v ≡ key n) (ec : x ≡ channel n) where
     one-more : bestOf may key channel (n + 1) ≡ better key channel best n
     unfolding bestOf
     one-more = rw (add-one n, m, bestOf, a .best-is)
 
-    test : (i : ℕ) → best ≡ suc i → goesFirst v c best than other ≡ goesBefore key channel n i
+    test : (i : ℕ) → best ≡ suc i → goesFirst v x best than other ≡ goesBefore key channel n i
     test i e = rw (ev, ec, a .key-is i e, a .channel-is i e, e)
 
-    pub leading-new : goesFirst v c best than other ≡ true → Leading may key channel (n + 1) (n + 1) v c
+    pub leading-new : goesFirst v x best than other ≡ true → Leading may key channel (n + 1) (n + 1) v x
     leading-new t = record {
       best-is = one-more ∙ go best refl;
       key-is = λ i e. let s : i ≡ n = omega arith in rw s ev;
@@ -72,11 +72,11 @@ module _ {may : ℕ → Bool} {key channel : ℕ → ℕ} {n best than other : �
         go zero e = sym (add-one n)
         go (suc i) e = rw (sym (test i e) ∙ t, better) (sym (add-one n))
 
-    pub leading-old : goesFirst v c best than other ≡ false → Leading may key channel (n + 1) best than other
+    pub leading-old : goesFirst v x best than other ≡ false → Leading may key channel (n + 1) best than other
     leading-old t = record { best-is = one-more ∙ go best refl; key-is = a .key-is; channel-is = a .channel-is }
       where
         go : (b : ℕ) → best ≡ b → better key channel b n ≡ best
-        go zero e = absurd (let z : _≡_ {A = ℕ} 0 1 = cc (none-before v c than other best e, t) in omega arith)
+        go zero e = absurd (let z : _≡_ {A = ℕ} 0 1 = cc (none-before v x than other best e, t) in omega arith)
         go (suc i) e = rw (sym (test i e) ∙ t, better) (sym e)
 
 -- the rows below k are passed: `due` is the best of those that are current, `soon` of those that are early
@@ -90,7 +90,7 @@ choosing-none w l = record { place = omega arith; current = leading-none _ _ _; 
 
 module _ {w : Store} {l due deadline dueChannel soon time soonChannel k : ℕ}
     (a : Choosing w l due deadline dueChannel soon time soonChannel k) where
-  pub choosing-pass : {c j : ℕ} → Row w l k c j → isHeld w c j ≡ false
+  pub choosing-pass : {x j : ℕ} → Row w l k x j → isHeld w x j ≡ false
       → Choosing w l due deadline dueChannel soon time soonChannel (k + 1)
   choosing-pass r f = record {
     place = omega (arith, r .below);
@@ -98,9 +98,9 @@ module _ {w : Store} {l due deadline dueChannel soon time soonChannel k : ℕ}
     early = leading-pass (a .early) (empty-early r f);
   }
 
-  module _ {c j now t : ℕ} (p : Held w l k c j now t) where
-    module _ (h : now < t) {b : Bool} (g : b ≡ goesFirst t c soon time soonChannel) where
-      pub choosing-soon : b ≡ true → Choosing w l due deadline dueChannel (k + 1) t c (k + 1)
+  module _ {x j now t : ℕ} (p : Held w l k x j now t) where
+    module _ (h : now < t) {b : Bool} (g : b ≡ goesFirst t x soon time soonChannel) where
+      pub choosing-soon : b ≡ true → Choosing w l due deadline dueChannel (k + 1) t x (k + 1)
       choosing-soon f = record {
         place = omega (arith, p .row .below);
         current = leading-pass (a .current) (soon-current p h);
@@ -114,8 +114,8 @@ module _ {w : Store} {l due deadline dueChannel soon time soonChannel k : ℕ}
         early = leading-old (a .early) (soon-early p h) (held-logical p) (p .row .its-channel) (sym g ∙ f);
       }
 
-    module _ (h : t ≤ now) {d : ℕ} (e : d ≡ delayOf w c j) {b : Bool} (g : b ≡ goesFirst (t + d) c due deadline dueChannel) where
-      pub choosing-due : b ≡ true → Choosing w l (k + 1) (t + d) c soon time soonChannel (k + 1)
+    module _ (h : t ≤ now) {d : ℕ} (e : d ≡ delayOf w x j) {b : Bool} (g : b ≡ goesFirst (t + d) x due deadline dueChannel) where
+      pub choosing-due : b ≡ true → Choosing w l (k + 1) (t + d) x soon time soonChannel (k + 1)
       choosing-due f = record {
         place = omega (arith, p .row .below);
         current = leading-new (a .current) (due-current p h) (held-deadline p e) (p .row .its-channel) (sym g ∙ f);

@@ -7,9 +7,9 @@ use Rattle.store.specs.Layout.{Store}
 use Rattle.slot_rules.specs.Pick.{rowLogical}
 
 -- a row goes before the best so far, which has the key `than` and the channel `other`: `goesBefore`, on these numbers
-abbrev pub goesFirst : (key c best than other : ℕ) → Bool
-goesFirst key c zero than other = true
-goesFirst key c (suc best) than other = ltb key than || (eqb key than && ltb c other)
+abbrev pub goesFirst : (key x best than other : ℕ) → Bool
+goesFirst key x zero than other = true
+goesFirst key x (suc best) than other = ltb key than || (eqb key than && ltb x other)
 
 -- `time` is the logical time of the row at position `soon`
 abbrev pub Timed : Store → (l soon time : ℕ) → Type 0

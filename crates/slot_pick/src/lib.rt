@@ -11,10 +11,10 @@ ghost use Rattle.slot_rules.specs.Pick.{pickFrom, pickOf};
 ghost use Rattle.slot_pick.specs.Picks.{picksTo};
 ghost use Rattle.slot_pick.specs.Rows.{goesFirst, Timed};
 
-// Whether a packet of channel `c` goes before the best one so far, that of channel `other` with the key `than`, at position
+// Whether a packet of channel `x` goes before the best one so far, that of channel `other` with the key `than`, at position
 // `best`, 0 for none: by the key, "ties to the lower channel number".
-fn goes_before(key: u64, c: usize, best: usize, than: u64, other: usize) -> bool
-    ensures { λ r. ⌜ r ≡ goesFirst key c best than other ⌝ }
+fn goes_before(key: u64, x: usize, best: usize, than: u64, other: usize) -> bool
+    ensures { λ r. ⌜ r ≡ goesFirst key x best than other ⌝ }
 {
     if best == 0 {
         return true;
@@ -25,7 +25,7 @@ fn goes_before(key: u64, c: usize, best: usize, than: u64, other: usize) -> bool
     if key != than {
         return false;
     }
-    c < other
+    x < other
 }
 
 // The current packet with the earliest deadline, at position `due`, 0 for none; with none, the early one with the least
@@ -66,23 +66,23 @@ pub fn pick(store: &[u64], l: usize) -> usize
     let mut soon_channel: usize = 0;
     let mut k: usize = 0;
     while k < rows {
-        let c = link::row_channel(store, l, k);
+        let x = link::row_channel(store, l, k);
         let j = link::row_place(store, l, k);
         k += 1;
-        if channel::sent(store, c, j) < store_route::entered(store, c, j) {
-            let logical = slot_packet::logical(store, c, j);
+        if channel::sent(store, x, j) < store_route::entered(store, x, j) {
+            let logical = slot_packet::logical(store, x, j);
             if logical > now {
-                if goes_before(logical, c, soon, least, soon_channel) {
+                if goes_before(logical, x, soon, least, soon_channel) {
                     soon = k;
                     least = logical;
-                    soon_channel = c;
+                    soon_channel = x;
                 }
             } else {
-                let deadline = logical + channel::delay(store, c, j);
-                if goes_before(deadline, c, due, earliest, due_channel) {
+                let deadline = logical + channel::delay(store, x, j);
+                if goes_before(deadline, x, due, earliest, due_channel) {
                     due = k;
                     earliest = deadline;
-                    due_channel = c;
+                    due_channel = x;
                 }
             }
         }

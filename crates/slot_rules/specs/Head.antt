@@ -7,33 +7,33 @@ use Rattle.store.specs.Layout.{Store, ring, clockOf, messagesOf, delayOf, sentO
 use Rattle.folds.specs.Folds.{sumTo}
 use Rattle.store.specs.Amounts.{enteredOf}
 
--- the message, counted from 1, that packet x is of: the one before it ends at x or below. It is looked for from message n back,
+-- the message, counted from 1, that packet i is of: the one before it ends at i or below. It is looked for from message n back,
 -- among `kept` messages.
-unfoldable pub messageWith : Store → (c x n kept : ℕ) → ℕ
-messageWith w c x n zero = n
-messageWith w c x zero (suc kept) = zero
-messageWith w c x (suc n) (suc kept) = elim (leb (endOf w c n) x) [ true ↦ suc n | false ↦ messageWith w c x n kept ]
+unfoldable pub messageWith : Store → (x i n kept : ℕ) → ℕ
+messageWith w x i n zero = n
+messageWith w x i zero (suc kept) = zero
+messageWith w x i (suc n) (suc kept) = elim (leb (endOf w x n) i) [ true ↦ suc n | false ↦ messageWith w x i n kept ]
 
 -- the message that goes next, or is going, at place j; in a sound store it is one of the last 23
-abbrev pub messageOf : Store → (c j : ℕ) → ℕ
-messageOf w c j = messageWith w c (sentOf w c j) (messagesOf w c) (ring - 1)
+abbrev pub messageOf : Store → (x j : ℕ) → ℕ
+messageOf w x j = messageWith w x (sentOf w x j) (messagesOf w x) (ring - 1)
 
 -- its packets are counted from 0: the number of the next one
-abbrev pub packetOf : Store → (c j : ℕ) → ℕ
-packetOf w c j = sentOf w c j - endOf w c (messageOf w c j - 1)
+abbrev pub packetOf : Store → (x j : ℕ) → ℕ
+packetOf w x j = sentOf w x j - endOf w x (messageOf w x j - 1)
 
 -- "On a channel's next link the logical time is that of the link before plus the delay there."
-abbrev pub logicalOf : Store → (c j : ℕ) → ℕ
-logicalOf w c j = timeOf w c (messageOf w c j) + sumTo (delayOf w c) j
+abbrev pub logicalOf : Store → (x j : ℕ) → ℕ
+logicalOf w x j = timeOf w x (messageOf w x j) + sumTo (delayOf w x) j
 
 -- "Deadline on a link: logical time + d"
-abbrev pub deadlineOf : Store → (c j : ℕ) → ℕ
-deadlineOf w c j = logicalOf w c j + delayOf w c j
+abbrev pub deadlineOf : Store → (x j : ℕ) → ℕ
+deadlineOf w x j = logicalOf w x j + delayOf w x j
 
 -- the packet is held there: it has come
-abbrev pub isHeld : Store → (c j : ℕ) → Bool
-isHeld w c j = ltb (sentOf w c j) (enteredOf w c j)
+abbrev pub isHeld : Store → (x j : ℕ) → Bool
+isHeld w x j = ltb (sentOf w x j) (enteredOf w x j)
 
 -- "A packet is current when its logical time is at most the present slot."
-abbrev pub isCurrent : Store → (c j : ℕ) → Bool
-isCurrent w c j = leb (logicalOf w c j) (clockOf w)
+abbrev pub isCurrent : Store → (x j : ℕ) → Bool
+isCurrent w x j = leb (logicalOf w x j) (clockOf w)

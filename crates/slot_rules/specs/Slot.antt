@@ -22,11 +22,11 @@ pub record Send : Type 0 where
 
 unfoldable pub numbers : List Send → List ℕ
 numbers [] = []
-numbers (x ∷ rest) = x .slot ∷ (x .link ∷ (x .channel ∷ (x .message ∷ (x .packet ∷ numbers rest))))
+numbers (s ∷ rest) = s .slot ∷ (s .link ∷ (s .channel ∷ (s .message ∷ (s .packet ∷ numbers rest))))
 
--- what link l sends: the next packet of channel c, at place j of its route
-abbrev pub sendAt : Store → (l c j : ℕ) → Send
-sendAt w l c j = record { slot = clockOf w; link = l; channel = c; message = messageOf w c j - 1; packet = packetOf w c j }
+-- what link l sends: the next packet of channel x, at place j of its route
+abbrev pub sendAt : Store → (l x j : ℕ) → Send
+sendAt w l x j = record { slot = clockOf w; link = l; channel = x; message = messageOf w x j - 1; packet = packetOf w x j }
 
 -- of the row picked
 abbrev pub sendFrom : Store → (l position : ℕ) → List Send

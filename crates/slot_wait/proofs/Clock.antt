@@ -49,49 +49,49 @@ module _ (w : Store) (t : ℕ) where
     row-place-same : (k : ℕ) → rowPlaceOf (withClock w t) l k ≡ rowPlaceOf w l k
     row-place-same k = number-same (rowPlaceAt l k) (λ e. omega arith)
 
-  module _ (c : ℕ) where
-    messages-same : messagesOf (withClock w t) c ≡ messagesOf w c
-    messages-same = number-same (messagesAt c) (λ e. omega arith)
+  module _ (x : ℕ) where
+    messages-same : messagesOf (withClock w t) x ≡ messagesOf w x
+    messages-same = number-same (messagesAt x) (λ e. omega arith)
 
-    delay-same : (j : ℕ) → delayOf (withClock w t) c j ≡ delayOf w c j
-    delay-same j = number-same (delayAt c j) (λ e. omega arith)
+    delay-same : (j : ℕ) → delayOf (withClock w t) x j ≡ delayOf w x j
+    delay-same j = number-same (delayAt x j) (λ e. omega arith)
 
-    sent-same : (j : ℕ) → sentOf (withClock w t) c j ≡ sentOf w c j
-    sent-same j = number-same (sentAt c j) (λ e. omega arith)
+    sent-same : (j : ℕ) → sentOf (withClock w t) x j ≡ sentOf w x j
+    sent-same j = number-same (sentAt x j) (λ e. omega arith)
 
-    time-same : (n : ℕ) → timeOf (withClock w t) c n ≡ timeOf w c n
-    time-same n = number-same (timeAt c n) (λ e. omega arith)
+    time-same : (n : ℕ) → timeOf (withClock w t) x n ≡ timeOf w x n
+    time-same n = number-same (timeAt x n) (λ e. omega arith)
 
-    end-same : (n : ℕ) → endOf (withClock w t) c n ≡ endOf w c n
-    end-same n = number-same (endAt c n) (λ e. omega arith)
+    end-same : (n : ℕ) → endOf (withClock w t) x n ≡ endOf w x n
+    end-same n = number-same (endAt x n) (λ e. omega arith)
 
     -- what goes next at a place
-    entered-same : (j : ℕ) → enteredOf (withClock w t) c j ≡ enteredOf w c j
+    entered-same : (j : ℕ) → enteredOf (withClock w t) x j ≡ enteredOf w x j
     unfolding enteredOf
-    entered-same zero = rw messages-same (end-same (messagesOf w c))
+    entered-same zero = rw messages-same (end-same (messagesOf w x))
     entered-same (suc j) = sent-same j
 
-    message-with-same : (x n kept : ℕ) → messageWith (withClock w t) c x n kept ≡ messageWith w c x n kept
+    message-with-same : (u n kept : ℕ) → messageWith (withClock w t) x u n kept ≡ messageWith w x u n kept
     unfolding messageWith
-    message-with-same x n zero = refl
-    message-with-same x zero (suc kept) = refl
-    message-with-same x (suc n) (suc kept) = go (leb (endOf w c n) x) refl (message-with-same x n kept)
+    message-with-same u n zero = refl
+    message-with-same u zero (suc kept) = refl
+    message-with-same u (suc n) (suc kept) = go (leb (endOf w x n) u) refl (message-with-same u n kept)
       where
-        go : (b : Bool) → leb (endOf w c n) x ≡ b → messageWith (withClock w t) c x n kept ≡ messageWith w c x n kept
-            → messageWith (withClock w t) c x (suc n) (suc kept) ≡ messageWith w c x (suc n) (suc kept)
+        go : (b : Bool) → leb (endOf w x n) u ≡ b → messageWith (withClock w t) x u n kept ≡ messageWith w x u n kept
+            → messageWith (withClock w t) x u (suc n) (suc kept) ≡ messageWith w x u (suc n) (suc kept)
         go true e r = rw (end-same n, e, messageWith)
         go false e r = rw (end-same n, e, messageWith) r
 
-    message-same : (j : ℕ) → messageOf (withClock w t) c j ≡ messageOf w c j
-    message-same j = rw (sent-same j, messages-same) (message-with-same (sentOf w c j) (messagesOf w c) (ring - 1))
+    message-same : (j : ℕ) → messageOf (withClock w t) x j ≡ messageOf w x j
+    message-same j = rw (sent-same j, messages-same) (message-with-same (sentOf w x j) (messagesOf w x) (ring - 1))
 
-    is-held-same : (j : ℕ) → isHeld (withClock w t) c j ≡ isHeld w c j
+    is-held-same : (j : ℕ) → isHeld (withClock w t) x j ≡ isHeld w x j
     is-held-same j = rw (sent-same j, entered-same j)
 
-    logical-same : (j : ℕ) → logicalOf (withClock w t) c j ≡ logicalOf w c j
+    logical-same : (j : ℕ) → logicalOf (withClock w t) x j ≡ logicalOf w x j
     logical-same j =
-        rw (message-same j, time-same (messageOf w c j))
-        (rw (sum-same (delayOf (withClock w t) c) (delayOf w c) j (λ i h. delay-same i)))
+        rw (message-same j, time-same (messageOf w x j))
+        (rw (sum-same (delayOf (withClock w t) x) (delayOf w x) j (λ i h. delay-same i)))
 
   -- and of a row
   pub row-held-same : (l k : ℕ) → rowHeld (withClock w t) l k ≡ rowHeld w l k
@@ -104,21 +104,21 @@ module _ (w : Store) (t : ℕ) where
   pub clock-settled : Settled w (withClock w t)
   clock-settled = record { as-long = as-long w clockAt t; frame = λ at other _ _. number-same at other }
 
-  record-same : (c : ℕ) → SameRecord w (withClock w t) c
-  record-same c = record { number = λ at a b. number-same at (λ e. omega arith) }
+  record-same : (x : ℕ) → SameRecord w (withClock w t) x
+  record-same x = record { number = λ at a b. number-same at (λ e. omega arith) }
 
 pub clock-sound : (w : Store) (t : ℕ) → soundOf w ≡ true → t ≤ endSlot → soundOf (withClock w t) ≡ true
 clock-sound w t e h =
     is-sound (withClock w t)
     (settled-sound (clock-settled w t) s (rw (clock-set w t (s .long)) h) course
-    (λ c j i k. rw (held-same (record-same w t c) j (omega (arith, s .channel c i .hops-most))) (held-most s c j i k)))
+    (λ x j i k. rw (held-same (record-same w t x) j (omega (arith, s .channel x i .hops-most))) (held-most s x j i k)))
   where
     s : Sound w
     s = sound-is w e
 
-    course : (c : ℕ) → IsChannel w c → CourseIs (withClock w t) c
-    course c i =
-        let k = channel-same (record-same w t c) (network-same (clock-settled w t)) (s .counts .links-most) (s .channel c i) in
+    course : (x : ℕ) → IsChannel w x → CourseIs (withClock w t) x
+    course x i =
+        let k = channel-same (record-same w t x) (network-same (clock-settled w t)) (s .counts .links-most) (s .channel x i) in
         record {
           flows = k .flows;
           messages-most = k .messages-most;

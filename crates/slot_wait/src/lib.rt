@@ -35,10 +35,10 @@ fn wait_on(store: &[u64], l: usize, most: u64) -> u64
     let mut least = most;
     let mut k: usize = 0;
     while k < rows {
-        let c = link::row_channel(store, l, k);
+        let x = link::row_channel(store, l, k);
         let j = link::row_place(store, l, k);
-        if channel::sent(store, c, j) < store_route::entered(store, c, j) {
-            least = smaller(least, until(reach, slot_packet::logical(store, c, j)));
+        if channel::sent(store, x, j) < store_route::entered(store, x, j) {
+            least = smaller(least, until(reach, slot_packet::logical(store, x, j)));
         }
         k += 1;
     }

@@ -70,12 +70,12 @@ fn channels_sound(store: &[u64]) -> bool
     ensures { λ r. ⌜ r ≡ every (channelSound (now (store .entry))) (channelsOf (now (store .entry))) ⌝ }
 {
     let channels = head::channels(store);
-    let mut c: usize = 0;
-    while c < channels {
-        if !sound_channel::channel_is_sound(store, c) {
+    let mut x: usize = 0;
+    while x < channels {
+        if !sound_channel::channel_is_sound(store, x) {
             return false;
         }
-        c += 1;
+        x += 1;
     }
     true
 }
@@ -102,10 +102,10 @@ fn all_places(store: &[u64]) -> usize
 {
     let channels = head::channels(store);
     let mut sum: usize = 0;
-    let mut c: usize = 0;
-    while c < channels {
-        sum += channel::hops(store, c);
-        c += 1;
+    let mut x: usize = 0;
+    while x < channels {
+        sum += channel::hops(store, x);
+        x += 1;
     }
     sum
 }

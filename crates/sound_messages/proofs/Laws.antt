@@ -31,65 +31,65 @@ module _ (t p l : ℕ) where
   not-apart h = rw (lt-leb p l h) (sym (lt-leb (t + p) l (omega arith)))
 
 -- Message n + 1 after message n: `start` and `end` are their ends.
-module _ (w : Store) (c n start end : ℕ) (b : start ≡ endOf w c n) (e : end ≡ endOf w c (n + 1)) where
-  pub follows-empty : end ≤ start → false ≡ follows w c n
+module _ (w : Store) (x n start end : ℕ) (b : start ≡ endOf w x n) (e : end ≡ endOf w x (n + 1)) where
+  pub follows-empty : end ≤ start → false ≡ follows w x n
   follows-empty h =
-      let m : endOf w c (n + 1) ≤ endOf w c n = rw (e, b) at h in
-      rw (le-ltb (endOf w c n) (endOf w c (n + 1)) m)
+      let m : endOf w x (n + 1) ≤ endOf w x n = rw (e, b) at h in
+      rw (le-ltb (endOf w x n) (endOf w x (n + 1)) m)
 
-  sizes : (k : ℕ) → k ≡ cOf w c → start < end → end - start ≤ k
-      → (ltb (endOf w c n) (endOf w c (n + 1)) && leb (endOf w c (n + 1)) (endOf w c n + cOf w c)) ≡ true
+  sizes : (k : ℕ) → k ≡ cOf w x → start < end → end - start ≤ k
+      → (ltb (endOf w x n) (endOf w x (n + 1)) && leb (endOf w x (n + 1)) (endOf w x n + cOf w x)) ≡ true
   sizes k q h l =
-      let m : endOf w c n < endOf w c (n + 1) = rw (b, e) at h in
-      let o : endOf w c (n + 1) ≤ endOf w c n + cOf w c = omega (arith, (rw (b, e, q) at l)) in
-      rw (lt-ltb (endOf w c n) (endOf w c (n + 1)) m, le-leb (endOf w c (n + 1)) (endOf w c n + cOf w c) o)
+      let m : endOf w x n < endOf w x (n + 1) = rw (b, e) at h in
+      let o : endOf w x (n + 1) ≤ endOf w x n + cOf w x = omega (arith, (rw (b, e, q) at l)) in
+      rw (lt-ltb (endOf w x n) (endOf w x (n + 1)) m, le-leb (endOf w x (n + 1)) (endOf w x n + cOf w x) o)
 
-  pub follows-long : (k : ℕ) → k ≡ cOf w c → start < end → k < end - start → false ≡ follows w c n
+  pub follows-long : (k : ℕ) → k ≡ cOf w x → start < end → k < end - start → false ≡ follows w x n
   follows-long k q h l =
-      let m : endOf w c n < endOf w c (n + 1) = rw (b, e) at h in
-      let o : endOf w c n + cOf w c < endOf w c (n + 1) = omega (arith, (rw (b, e, q) at l)) in
-      rw (lt-ltb (endOf w c n) (endOf w c (n + 1)) m, lt-leb (endOf w c (n + 1)) (endOf w c n + cOf w c) o)
+      let m : endOf w x n < endOf w x (n + 1) = rw (b, e) at h in
+      let o : endOf w x n + cOf w x < endOf w x (n + 1) = omega (arith, (rw (b, e, q) at l)) in
+      rw (lt-ltb (endOf w x n) (endOf w x (n + 1)) m, lt-leb (endOf w x (n + 1)) (endOf w x n + cOf w x) o)
 
-  module _ (k sent : ℕ) (q : k ≡ cOf w c) (d : sent ≡ deliveredOf w c) (h : start < end) (l : end - start ≤ k) where
-    pub follows-delivered : start ≤ sent → true ≡ follows w c n
+  module _ (k sent : ℕ) (q : k ≡ cOf w x) (d : sent ≡ deliveredOf w x) (h : start < end) (l : end - start ≤ k) where
+    pub follows-delivered : start ≤ sent → true ≡ follows w x n
     follows-delivered a =
-        let m : endOf w c n ≤ deliveredOf w c = rw (b, d) at a in
-        rw (sizes k q h l, le-leb (endOf w c n) (deliveredOf w c) m)
+        let m : endOf w x n ≤ deliveredOf w x = rw (b, d) at a in
+        rw (sizes k q h l, le-leb (endOf w x n) (deliveredOf w x) m)
 
-    pub follows-apart : sent < start → (r : Bool) → r ≡ leb (timeOf w c n + pOf w c) (timeOf w c (n + 1)) → r ≡ follows w c n
+    pub follows-apart : sent < start → (r : Bool) → r ≡ leb (timeOf w x n + pOf w x) (timeOf w x (n + 1)) → r ≡ follows w x n
     follows-apart a r s =
-        let m : deliveredOf w c < endOf w c n = rw (d, b) at a in
-        rw (sizes k q h l, lt-leb (endOf w c n) (deliveredOf w c) m) s
+        let m : deliveredOf w x < endOf w x n = rw (d, b) at a in
+        rw (sizes k q h l, lt-leb (endOf w x n) (deliveredOf w x) m) s
 
 -- The later one as it is read in the ring, at its place.
-module _ (w : Store) (c n at : ℕ) (p : at ≡ (n + 1) % ring) where
-  pub end-is : (end : ℕ) → end ≡ endOf w c at → end ≡ endOf w c (n + 1)
-  end-is end e = e ∙ ring-end (n + 1) at p w c
+module _ (w : Store) (x n at : ℕ) (p : at ≡ (n + 1) % ring) where
+  pub end-is : (end : ℕ) → end ≡ endOf w x at → end ≡ endOf w x (n + 1)
+  end-is end e = e ∙ ring-end (n + 1) at p w x
 
-  pub apart-is : (r : Bool) → r ≡ leb (timeOf w c n + pOf w c) (timeOf w c at)
-      → r ≡ leb (timeOf w c n + pOf w c) (timeOf w c (n + 1))
-  apart-is r e = rw (ring-time (n + 1) at p w c) at e
+  pub apart-is : (r : Bool) → r ≡ leb (timeOf w x n + pOf w x) (timeOf w x at)
+      → r ≡ leb (timeOf w x n + pOf w x) (timeOf w x (n + 1))
+  apart-is r e = rw (ring-time (n + 1) at p w x) at e
 
 -- a message's place in the ring tells as much
-follows-place : (w : Store) (c n at : ℕ) → at ≡ n % ring → follows w c at ≡ follows w c n
-follows-place w c n at e = rw (ring-same n at e, ring-next n at e)
+follows-place : (w : Store) (x n at : ℕ) → at ≡ n % ring → follows w x at ≡ follows w x n
+follows-place w x n at e = rw (ring-same n at e, ring-next n at e)
 
 -- One step back: message n, with `left` more that may be looked at.
-module _ (w : Store) (c : ℕ) where
-  order-delivered : (n left : ℕ) → delivered w c n ≡ true → inOrder w c n left ≡ true
+module _ (w : Store) (x : ℕ) where
+  order-delivered : (n left : ℕ) → delivered w x n ≡ true → inOrder w x n left ≡ true
   unfolding inOrder
   order-delivered n zero e = e
   order-delivered zero (suc left) e = e
   order-delivered (suc n) (suc left) e = rw e
 
-  order-lost : (n left : ℕ) → 0 < left → n ≡ 0 → delivered w c n ≡ false → inOrder w c n left ≡ false
+  order-lost : (n left : ℕ) → 0 < left → n ≡ 0 → delivered w x n ≡ false → inOrder w x n left ≡ false
   unfolding inOrder
   order-lost n zero h z e = absurd (omega arith)
   order-lost zero (suc left) h z e = e
   order-lost (suc n) (suc left) h z e = absurd (omega arith)
 
-  order-step : (n left : ℕ) → 0 < left → (n ≡ 0 → ⊥) → delivered w c n ≡ false
-      → inOrder w c n left ≡ (follows w c (n - 1) && inOrder w c (n - 1) (left - 1))
+  order-step : (n left : ℕ) → 0 < left → (n ≡ 0 → ⊥) → delivered w x n ≡ false
+      → inOrder w x n left ≡ (follows w x (n - 1) && inOrder w x (n - 1) (left - 1))
   unfolding inOrder
   order-step n zero h z e = absurd (omega arith)
   order-step zero (suc left) h z e = absurd (z refl)
@@ -98,83 +98,83 @@ module _ (w : Store) (c : ℕ) where
       let b : suc left - 1 ≡ left = omega arith in
       simp (a, b, e)
 
-  order-end : (n left : ℕ) → left ≤ 0 → inOrder w c n left ≡ delivered w c n
+  order-end : (n left : ℕ) → left ≤ 0 → inOrder w x n left ≡ delivered w x n
   unfolding inOrder
   order-end n zero h = refl
   order-end n (suc left) h = absurd (omega arith)
 
 -- A loop back over the messages: message n stands at place `at`, and what is left decides.
-pub record Ordering (w : Store) (c last most sent n at left : ℕ) : Type 0 where
-  pub sent-is : sent ≡ deliveredOf w c
+pub record Ordering (w : Store) (x last most sent n at left : ℕ) : Type 0 where
+  pub sent-is : sent ≡ deliveredOf w x
   pub place : at ≡ n % ring
-  pub same : inOrder w c last most ≡ inOrder w c n left
+  pub same : inOrder w x last most ≡ inOrder w x n left
 
-module _ (w : Store) (c last most sent n at left end : ℕ) (o : Ordering w c last most sent n at left)
-    (e : end ≡ endOf w c at) where
-  end-of : end ≡ endOf w c n
-  end-of = e ∙ ring-end n at (o .place) w c
+module _ (w : Store) (x last most sent n at left end : ℕ) (o : Ordering w x last most sent n at left)
+    (e : end ≡ endOf w x at) where
+  end-of : end ≡ endOf w x n
+  end-of = e ∙ ring-end n at (o .place) w x
 
-  is-delivered : end ≤ sent → delivered w c n ≡ true
+  is-delivered : end ≤ sent → delivered w x n ≡ true
   is-delivered h =
-      let m : endOf w c n ≤ deliveredOf w c = rw (end-of, o .sent-is) at h in
-      le-leb (endOf w c n) (deliveredOf w c) m
+      let m : endOf w x n ≤ deliveredOf w x = rw (end-of, o .sent-is) at h in
+      le-leb (endOf w x n) (deliveredOf w x) m
 
-  not-delivered : sent < end → delivered w c n ≡ false
+  not-delivered : sent < end → delivered w x n ≡ false
   not-delivered h =
-      let m : deliveredOf w c < endOf w c n = rw (o .sent-is, end-of) at h in
-      lt-leb (endOf w c n) (deliveredOf w c) m
+      let m : deliveredOf w x < endOf w x n = rw (o .sent-is, end-of) at h in
+      lt-leb (endOf w x n) (deliveredOf w x) m
 
-  pub ordering-delivered : end ≤ sent → true ≡ inOrder w c last most
-  ordering-delivered h = sym (o .same ∙ order-delivered w c n left (is-delivered h))
+  pub ordering-delivered : end ≤ sent → true ≡ inOrder w x last most
+  ordering-delivered h = sym (o .same ∙ order-delivered w x n left (is-delivered h))
 
-  pub ordering-lost : 0 < left → n ≡ 0 → sent < end → false ≡ inOrder w c last most
-  ordering-lost h z l = sym (o .same ∙ order-lost w c n left h z (not-delivered l))
+  pub ordering-lost : 0 < left → n ≡ 0 → sent < end → false ≡ inOrder w x last most
+  ordering-lost h z l = sym (o .same ∙ order-lost w x n left h z (not-delivered l))
 
   module _ (h : 0 < left) (z : n ≡ 0 → ⊥) (l : sent < end) (before : ℕ) (p : before ≡ placeBefore at) where
     place-back : before ≡ (n - 1) % ring
     place-back = p ∙ ring-back n at (o .place) z
 
-    step : (r : Bool) → follows w c before ≡ r → inOrder w c last most ≡ (r && inOrder w c (n - 1) (left - 1))
+    step : (r : Bool) → follows w x before ≡ r → inOrder w x last most ≡ (r && inOrder w x (n - 1) (left - 1))
     step r f =
-        let g : follows w c (n - 1) ≡ r = sym (follows-place w c (n - 1) before place-back) ∙ f in
-        o .same ∙ (order-step w c n left h z (not-delivered l) ∙ rw g)
+        let g : follows w x (n - 1) ≡ r = sym (follows-place w x (n - 1) before place-back) ∙ f in
+        o .same ∙ (order-step w x n left h z (not-delivered l) ∙ rw g)
 
-    pub ordering-broken : follows w c before ≡ false → false ≡ inOrder w c last most
+    pub ordering-broken : follows w x before ≡ false → false ≡ inOrder w x last most
     ordering-broken f = sym (step false f)
 
-    pub ordering-more : follows w c before ≡ true → Ordering w c last most sent (n - 1) before (left - 1)
+    pub ordering-more : follows w x before ≡ true → Ordering w x last most sent (n - 1) before (left - 1)
     ordering-more f = record { sent-is = o .sent-is; place = place-back; same = step true f }
 
-  pub ordering-end : left ≤ 0 → leb end sent ≡ inOrder w c last most
-  ordering-end h = rw (end-of, o .sent-is) (sym (o .same ∙ order-end w c n left h))
+  pub ordering-end : left ≤ 0 → leb end sent ≡ inOrder w x last most
+  ordering-end h = rw (end-of, o .sent-is) (sym (o .same ∙ order-end w x n left h))
 
-pub sent-delivered : (w : Store) (c h s : ℕ) → h ≡ hopsOf w c → s ≡ sentOf w c (h - 1) → s ≡ deliveredOf w c
-sent-delivered w c h s e f = rw (f, e)
+pub sent-delivered : (w : Store) (x h s : ℕ) → h ≡ hopsOf w x → s ≡ sentOf w x (h - 1) → s ≡ deliveredOf w x
+sent-delivered w x h s e f = rw (f, e)
 
 -- The numbers of a channel's messages, as they were read: `n` messages, the last at `t` and ending at `e`.
-module _ (w : Store) (c n : ℕ) (en : n ≡ messagesOf w c) where
-  pub too-many : isNumber n ≡ false → false ≡ messagesFit w c
+module _ (w : Store) (x n : ℕ) (en : n ≡ messagesOf w x) where
+  pub too-many : isNumber n ≡ false → false ≡ messagesFit w x
   too-many h = rw (rw en at h)
 
   pub few : isNumber n ≡ true → n ≤ mostNumber
   few h = leb-true n mostNumber h
 
-  pub total-fits : (k : ℕ) → k ≡ cOf w c → cOf w c ≤ mostC → n ≤ mostNumber → Fits w64 (k * n)
+  pub total-fits : (k : ℕ) → k ≡ cOf w x → cOf w x ≤ mostC → n ≤ mostNumber → Fits w64 (k * n)
   total-fits k ek h l =
       let m : k ≤ mostC = rw ek h in
       record { fits = omega (arith, mul-le-mul m l) }
 
-  module _ (t : ℕ) (et : t ≡ timeOf w c n) (h : isNumber n ≡ true) where
-    pub too-late : isNumber t ≡ false → false ≡ messagesFit w c
+  module _ (t : ℕ) (et : t ≡ timeOf w x n) (h : isNumber n ≡ true) where
+    pub too-late : isNumber t ≡ false → false ≡ messagesFit w x
     too-late l = rw (rw en at h, rw (et, en) at l)
 
-    module _ (e k : ℕ) (ee : e ≡ endOf w c n) (ek : k ≡ cOf w c) (l : isNumber t ≡ true) where
-      pub too-much : k * n < e → false ≡ messagesFit w c
+    module _ (e k : ℕ) (ee : e ≡ endOf w x n) (ek : k ≡ cOf w x) (l : isNumber t ≡ true) where
+      pub too-much : k * n < e → false ≡ messagesFit w x
       too-much o =
-          let m : cOf w c * messagesOf w c < acceptedOf w c = rw (ek, ee, en) at o in
-          rw (rw en at h, rw (et, en) at l, lt-leb (acceptedOf w c) (cOf w c * messagesOf w c) m)
+          let m : cOf w x * messagesOf w x < acceptedOf w x = rw (ek, ee, en) at o in
+          rw (rw en at h, rw (et, en) at l, lt-leb (acceptedOf w x) (cOf w x * messagesOf w x) m)
 
-      pub ordered : e ≤ k * n → (r : Bool) → r ≡ inOrder w c n (ring - 1) → r ≡ messagesFit w c
+      pub ordered : e ≤ k * n → (r : Bool) → r ≡ inOrder w x n (ring - 1) → r ≡ messagesFit w x
       ordered o r f =
-          let m : acceptedOf w c ≤ cOf w c * messagesOf w c = rw (ek, ee, en) at o in
-          rw (rw en at h, rw (et, en) at l, le-leb (acceptedOf w c) (cOf w c * messagesOf w c) m) (rw en at f)
+          let m : acceptedOf w x ≤ cOf w x * messagesOf w x = rw (ek, ee, en) at o in
+          rw (rw en at h, rw (et, en) at l, le-leb (acceptedOf w x) (cOf w x * messagesOf w x) m) (rw en at f)

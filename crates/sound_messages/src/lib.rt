@@ -10,94 +10,94 @@ ghost use Rattle.store.specs.Amounts.{deliveredOf};
 ghost use Rattle.store.specs.Sound.{follows as followsIn, inOrder, messagesFit};
 
 // Whether the message at place `at` of the ring is at least p after the one at place `before`.
-fn is_apart(store: &[u64], c: usize, before: usize, at: usize) -> bool
+fn is_apart(store: &[u64], x: usize, before: usize, at: usize) -> bool
     requires { ⌜ Long (now store) ⌝ }
-    requires { ⌜ c < mostChannels ⌝ }
+    requires { ⌜ x < mostChannels ⌝ }
     requires { ⌜ before < ring ⌝ }
     requires { ⌜ at < ring ⌝ }
     ensures { λ r. ⌜ r
-        ≡ leb (timeOf (now (store .entry)) c before + pOf (now (store .entry)) c) (timeOf (now (store .entry)) c at) ⌝ }
+        ≡ leb (timeOf (now (store .entry)) x before + pOf (now (store .entry)) x) (timeOf (now (store .entry)) x at) ⌝ }
 {
-    let p = channel::p(store, c);
-    let later = channel::time_in(store, c, at);
-    later >= p && channel::time_in(store, c, before) <= later - p
+    let p = channel::p(store, x);
+    let later = channel::time_in(store, x, at);
+    later >= p && channel::time_in(store, x, before) <= later - p
 }
 
 // Whether the message at place `at` of the ring has 1 to C packets, and is p after the one before it, at place `before`, if that
 // is not delivered. `sent` is what is delivered.
-fn follows(store: &[u64], c: usize, before: usize, at: usize, sent: u64) -> bool
+fn follows(store: &[u64], x: usize, before: usize, at: usize, sent: u64) -> bool
     requires { ⌜ Long (now store) ⌝ }
-    requires { ⌜ c < mostChannels ⌝ }
+    requires { ⌜ x < mostChannels ⌝ }
     requires { ⌜ before < ring ⌝ }
     requires { ⌜ at ≡ (before + 1) % ring ⌝ }
-    requires { ⌜ sent ≡ deliveredOf (now store) c ⌝ }
-    ensures { λ r. ⌜ r ≡ followsIn (now (store .entry)) c before ⌝ }
+    requires { ⌜ sent ≡ deliveredOf (now store) x ⌝ }
+    ensures { λ r. ⌜ r ≡ followsIn (now (store .entry)) x before ⌝ }
 {
-    let start = channel::end_in(store, c, before);
-    let end = channel::end_in(store, c, at);
+    let start = channel::end_in(store, x, before);
+    let end = channel::end_in(store, x, at);
     if end <= start {
         return false;
     }
-    if end - start > channel::c(store, c) {
+    if end - start > channel::c(store, x) {
         return false;
     }
     if start <= sent {
         return true;
     }
-    is_apart(store, c, before, at)
+    is_apart(store, x, before, at)
 }
 
 // Whether messages are in order, from message `last` back to one that is delivered: those that are not are among the `most`
 // last ones.
-pub fn in_order(store: &[u64], c: usize, last: u64, most: u64) -> bool
+pub fn in_order(store: &[u64], x: usize, last: u64, most: u64) -> bool
     requires { ⌜ Long (now store) ⌝ }
-    requires { ⌜ c < mostChannels ⌝ }
+    requires { ⌜ x < mostChannels ⌝ }
     requires { ⌜ last ≤ mostNumber ⌝ }
-    requires { ⌜ 1 ≤ hopsOf (now store) c ⌝ }
-    requires { ⌜ hopsOf (now store) c ≤ mostHops ⌝ }
-    ensures { λ r. ⌜ r ≡ inOrder (now (store .entry)) c last most ⌝ }
+    requires { ⌜ 1 ≤ hopsOf (now store) x ⌝ }
+    requires { ⌜ hopsOf (now store) x ≤ mostHops ⌝ }
+    ensures { λ r. ⌜ r ≡ inOrder (now (store .entry)) x last most ⌝ }
 {
-    let sent = channel::sent(store, c, channel::hops(store, c) - 1);
+    let sent = channel::sent(store, x, channel::hops(store, x) - 1);
     let mut n = last;
     // the place of message `n` in the ring
     let mut at = channel::ring_place(last);
     let mut left = most;
     while left > 0 {
-        if channel::end_in(store, c, at) <= sent {
+        if channel::end_in(store, x, at) <= sent {
             return true;
         }
         if n == 0 {
             return false;
         }
         let before = channel::place_before(at);
-        if !follows(store, c, before, at, sent) {
+        if !follows(store, x, before, at, sent) {
             return false;
         }
         n -= 1;
         at = before;
         left -= 1;
     }
-    channel::end_in(store, c, at) <= sent
+    channel::end_in(store, x, at) <= sent
 }
 
 // Whether a channel's messages are in order, and their numbers not too large.
-pub fn messages_fit(store: &[u64], c: usize) -> bool
+pub fn messages_fit(store: &[u64], x: usize) -> bool
     requires { ⌜ Long (now store) ⌝ }
-    requires { ⌜ c < mostChannels ⌝ }
-    requires { ⌜ cOf (now store) c ≤ mostC ⌝ }
-    requires { ⌜ 1 ≤ hopsOf (now store) c ⌝ }
-    requires { ⌜ hopsOf (now store) c ≤ mostHops ⌝ }
-    ensures { λ r. ⌜ r ≡ messagesFit (now (store .entry)) c ⌝ }
+    requires { ⌜ x < mostChannels ⌝ }
+    requires { ⌜ cOf (now store) x ≤ mostC ⌝ }
+    requires { ⌜ 1 ≤ hopsOf (now store) x ⌝ }
+    requires { ⌜ hopsOf (now store) x ≤ mostHops ⌝ }
+    ensures { λ r. ⌜ r ≡ messagesFit (now (store .entry)) x ⌝ }
 {
-    let n = channel::messages(store, c);
+    let n = channel::messages(store, x);
     if !Slot::is_number(n) {
         return false;
     }
-    if !Slot::is_number(channel::time(store, c, n)) {
+    if !Slot::is_number(channel::time(store, x, n)) {
         return false;
     }
-    if channel::end(store, c, n) > channel::c(store, c) * n {
+    if channel::end(store, x, n) > channel::c(store, x) * n {
         return false;
     }
-    in_order(store, c, n, store::UNDELIVERED)
+    in_order(store, x, n, store::UNDELIVERED)
 }

@@ -11,23 +11,23 @@ ghost use Rattle.store.specs.Sound.{rowsSound};
 ghost use Rattle.store.specs.Ranged.{Fit};
 ghost use Rattle.sound_rows.specs.Rows.{stands, follows};
 
-// Whether channel `c` is routed over link `l`, at place `j` of its route.
-fn row_stands(store: &[u64], l: usize, c: usize, j: usize) -> bool
+// Whether channel `x` is routed over link `l`, at place `j` of its route.
+fn row_stands(store: &[u64], l: usize, x: usize, j: usize) -> bool
     requires { ⌜ Fit (now store) ⌝ }
-    ensures { λ r. ⌜ r ≡ stands (now (store .entry)) l c j ⌝ }
+    ensures { λ r. ⌜ r ≡ stands (now (store .entry)) l x j ⌝ }
 {
-    if c >= head::channels(store) {
+    if x >= head::channels(store) {
         return false;
     }
-    if j >= channel::hops(store, c) {
+    if j >= channel::hops(store, x) {
         return false;
     }
-    channel::route(store, c, j) == l
+    channel::route(store, x, j) == l
 }
 
 // Whether a row comes after the one above it, channel `higher` with the delay `above`: by delay, then by channel number.
-fn row_follows(above: u64, higher: usize, delay: u64, c: usize) -> bool
-    ensures { λ r. ⌜ r ≡ follows above higher delay c ⌝ }
+fn row_follows(above: u64, higher: usize, delay: u64, x: usize) -> bool
+    ensures { λ r. ⌜ r ≡ follows above higher delay x ⌝ }
 {
     if above < delay {
         return true;
@@ -35,7 +35,7 @@ fn row_follows(above: u64, higher: usize, delay: u64, c: usize) -> bool
     if above != delay {
         return false;
     }
-    higher < c
+    higher < x
 }
 
 // Whether the rows of link `l` are channels routed over it, in order, hold no more than is reserved for them, and fit its
@@ -52,22 +52,22 @@ fn link_rows_sound(store: &[u64], l: usize) -> bool
     let mut sum: u64 = 0;
     let mut k: usize = 0;
     while k < rows {
-        let c = link::row_channel(store, l, k);
+        let x = link::row_channel(store, l, k);
         let j = link::row_place(store, l, k);
-        if !row_stands(store, l, c, j) {
+        if !row_stands(store, l, x, j) {
             return false;
         }
-        let delay = channel::delay(store, c, j);
-        if !row_follows(above, higher, delay, c) {
+        let delay = channel::delay(store, x, j);
+        if !row_follows(above, higher, delay, x) {
             return false;
         }
-        let reserved = store_route::reserved(store, c, j);
-        if store_route::held(store, c, j) > reserved {
+        let reserved = store_route::reserved(store, x, j);
+        if store_route::held(store, x, j) > reserved {
             return false;
         }
         sum += reserved;
         above = delay;
-        higher = c;
+        higher = x;
         k += 1;
     }
     sum <= link::buffer(store, l)

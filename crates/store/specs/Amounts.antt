@@ -5,35 +5,35 @@ use Rattle.kinds.specs.Ranges.{mostHorizon, mostC, mostP}
 use Rattle.store.specs.Layout.{Store, bOf, cOf, pOf, hopsOf, messagesOf, routeOf, delayOf, sentOf, endOf, horizonOf}
 
 -- "Reserved packets: on the first link B × C"
-abbrev pub firstReserved : (c b : ℕ) → ℕ
-firstReserved c b = b * c
+abbrev pub firstReserved : (x b : ℕ) → ℕ
+firstReserved x b = b * x
 
 -- "On a later link C × (1 + (h + d' + d − 2) / p), quotient rounded down, with h and d' the horizon and delay of the link
 -- before"
-abbrev pub laterReserved : (c p h d′ d : ℕ) → ℕ
-laterReserved c p h d′ d = c * (1 + (h + d′ + d - 2) / p)
+abbrev pub laterReserved : (x p h d′ d : ℕ) → ℕ
+laterReserved x p h d′ d = x * (1 + (h + d′ + d - 2) / p)
 
-unfoldable pub reservedOf : Store → (c j : ℕ) → ℕ
-reservedOf w c zero = firstReserved (cOf w c) (bOf w c)
-reservedOf w c (suc j) =
-    laterReserved (cOf w c) (pOf w c) (horizonOf w (routeOf w c j)) (delayOf w c j) (delayOf w c (suc j))
+unfoldable pub reservedOf : Store → (x j : ℕ) → ℕ
+reservedOf w x zero = firstReserved (cOf w x) (bOf w x)
+reservedOf w x (suc j) =
+    laterReserved (cOf w x) (pOf w x) (horizonOf w (routeOf w x j)) (delayOf w x j) (delayOf w x (suc j))
 
 -- a bound on either, numbers in range and delays at most p
 abbrev pub mostReserved : ℕ
 mostReserved = mostC * (1 + (mostHorizon + mostP + mostP))
 
 -- all packets accepted so far, and those delivered: sent on the last link of the route
-abbrev pub acceptedOf : Store → (c : ℕ) → ℕ
-acceptedOf w c = endOf w c (messagesOf w c)
+abbrev pub acceptedOf : Store → (x : ℕ) → ℕ
+acceptedOf w x = endOf w x (messagesOf w x)
 
-abbrev pub deliveredOf : Store → (c : ℕ) → ℕ
-deliveredOf w c = sentOf w c (hopsOf w c - 1)
+abbrev pub deliveredOf : Store → (x : ℕ) → ℕ
+deliveredOf w x = sentOf w x (hopsOf w x - 1)
 
 -- the packets that have come to place j: to the first all that were accepted, to another all that were sent before it
-unfoldable pub enteredOf : Store → (c j : ℕ) → ℕ
-enteredOf w c zero = acceptedOf w c
-enteredOf w c (suc j) = sentOf w c j
+unfoldable pub enteredOf : Store → (x j : ℕ) → ℕ
+enteredOf w x zero = acceptedOf w x
+enteredOf w x (suc j) = sentOf w x j
 
 -- the packets held there
-abbrev pub heldOf : Store → (c j : ℕ) → ℕ
-heldOf w c j = enteredOf w c j - sentOf w c j
+abbrev pub heldOf : Store → (x j : ℕ) → ℕ
+heldOf w x j = enteredOf w x j - sentOf w x j

@@ -29,7 +29,7 @@ abbrev pub linkAt : ℕ → ℕ
 linkAt l = 96 + 96 * l
 
 abbrev pub channelAt : ℕ → ℕ
-channelAt c = 1_632 + 96 * c
+channelAt x = 1_632 + 96 * x
 
 abbrev pub recordLength : ℕ
 recordLength = 96
@@ -73,55 +73,55 @@ rowsEnd l = linkAt l + 80
 
 -- A channel: its numbers, its route and the delay on each link of it. Places 6, 7 and 80 to 95 are spare (a mark).
 abbrev pub cAt : ℕ → ℕ
-cAt c = channelAt c
+cAt x = channelAt x
 
 abbrev pub pAt : ℕ → ℕ
-pAt c = channelAt c + 1
+pAt x = channelAt x + 1
 
 abbrev pub dAt : ℕ → ℕ
-dAt c = channelAt c + 2
+dAt x = channelAt x + 2
 
 abbrev pub bAt : ℕ → ℕ
-bAt c = channelAt c + 3
+bAt x = channelAt x + 3
 
 abbrev pub hopsAt : ℕ → ℕ
-hopsAt c = channelAt c + 4
+hopsAt x = channelAt x + 4
 
 abbrev pub routeStart : ℕ → ℕ
-routeStart c = channelAt c + 8
+routeStart x = channelAt x + 8
 
-abbrev pub routeAt : (c j : ℕ) → ℕ
-routeAt c j = routeStart c + j
+abbrev pub routeAt : (x j : ℕ) → ℕ
+routeAt x j = routeStart x + j
 
-abbrev pub delayAt : (c j : ℕ) → ℕ
-delayAt c j = channelAt c + 16 + j
+abbrev pub delayAt : (x j : ℕ) → ℕ
+delayAt x j = channelAt x + 16 + j
 
 -- and how far it is: how many messages were accepted, how many packets have been sent on each link of the route, counted
 -- over all messages, and of each of the last 24 messages its logical time on the first link and how many packets there
 -- were with it. Message n, counted from 1 here, stands at n % 24.
 abbrev pub messagesAt : ℕ → ℕ
-messagesAt c = channelAt c + 5
+messagesAt x = channelAt x + 5
 
-abbrev pub sentAt : (c j : ℕ) → ℕ
-sentAt c j = channelAt c + 24 + j
+abbrev pub sentAt : (x j : ℕ) → ℕ
+sentAt x j = channelAt x + 24 + j
 
 abbrev pub ring : ℕ
 ring = 24
 
-abbrev pub timeAt : (c n : ℕ) → ℕ
-timeAt c n = channelAt c + 32 + n % ring
+abbrev pub timeAt : (x n : ℕ) → ℕ
+timeAt x n = channelAt x + 32 + n % ring
 
-abbrev pub endAt : (c n : ℕ) → ℕ
-endAt c n = channelAt c + 56 + n % ring
+abbrev pub endAt : (x n : ℕ) → ℕ
+endAt x n = channelAt x + 56 + n % ring
 
 -- the place before another in the ring; the last one is before the first
 unfoldable pub placeBefore : ℕ → ℕ
 placeBefore zero = ring - 1
 placeBefore (suc at) = at
 
--- what it has sent and its messages' times and ends stand from `sentAt c 0` up to here
+-- what it has sent and its messages' times and ends stand from `sentAt x 0` up to here
 abbrev pub courseEnd : ℕ → ℕ
-courseEnd c = channelAt c + 80
+courseEnd x = channelAt x + 80
 
 -- Reading and writing, a name each.
 abbrev pub linksOf : Store → ℕ
@@ -191,73 +191,73 @@ rowPlaceOf w l k = numberAt w (rowPlaceAt l k)
 abbrev pub withRowPlace : Store → (l k : ℕ) → ℕ → Store
 withRowPlace w l k v = withNumber w (rowPlaceAt l k) v
 
-abbrev pub cOf : Store → (c : ℕ) → ℕ
-cOf w c = numberAt w (cAt c)
+abbrev pub cOf : Store → (x : ℕ) → ℕ
+cOf w x = numberAt w (cAt x)
 
-abbrev pub withC : Store → (c : ℕ) → ℕ → Store
-withC w c v = withNumber w (cAt c) v
+abbrev pub withC : Store → (x : ℕ) → ℕ → Store
+withC w x v = withNumber w (cAt x) v
 
-abbrev pub pOf : Store → (c : ℕ) → ℕ
-pOf w c = numberAt w (pAt c)
+abbrev pub pOf : Store → (x : ℕ) → ℕ
+pOf w x = numberAt w (pAt x)
 
-abbrev pub withP : Store → (c : ℕ) → ℕ → Store
-withP w c v = withNumber w (pAt c) v
+abbrev pub withP : Store → (x : ℕ) → ℕ → Store
+withP w x v = withNumber w (pAt x) v
 
-abbrev pub dOf : Store → (c : ℕ) → ℕ
-dOf w c = numberAt w (dAt c)
+abbrev pub dOf : Store → (x : ℕ) → ℕ
+dOf w x = numberAt w (dAt x)
 
-abbrev pub withD : Store → (c : ℕ) → ℕ → Store
-withD w c v = withNumber w (dAt c) v
+abbrev pub withD : Store → (x : ℕ) → ℕ → Store
+withD w x v = withNumber w (dAt x) v
 
-abbrev pub bOf : Store → (c : ℕ) → ℕ
-bOf w c = numberAt w (bAt c)
+abbrev pub bOf : Store → (x : ℕ) → ℕ
+bOf w x = numberAt w (bAt x)
 
-abbrev pub withB : Store → (c : ℕ) → ℕ → Store
-withB w c v = withNumber w (bAt c) v
+abbrev pub withB : Store → (x : ℕ) → ℕ → Store
+withB w x v = withNumber w (bAt x) v
 
-abbrev pub hopsOf : Store → (c : ℕ) → ℕ
-hopsOf w c = numberAt w (hopsAt c)
+abbrev pub hopsOf : Store → (x : ℕ) → ℕ
+hopsOf w x = numberAt w (hopsAt x)
 
-abbrev pub withHops : Store → (c : ℕ) → ℕ → Store
-withHops w c v = withNumber w (hopsAt c) v
+abbrev pub withHops : Store → (x : ℕ) → ℕ → Store
+withHops w x v = withNumber w (hopsAt x) v
 
-abbrev pub messagesOf : Store → (c : ℕ) → ℕ
-messagesOf w c = numberAt w (messagesAt c)
+abbrev pub messagesOf : Store → (x : ℕ) → ℕ
+messagesOf w x = numberAt w (messagesAt x)
 
-abbrev pub withMessages : Store → (c : ℕ) → ℕ → Store
-withMessages w c v = withNumber w (messagesAt c) v
+abbrev pub withMessages : Store → (x : ℕ) → ℕ → Store
+withMessages w x v = withNumber w (messagesAt x) v
 
-abbrev pub routeOf : Store → (c j : ℕ) → ℕ
-routeOf w c j = numberAt w (routeAt c j)
+abbrev pub routeOf : Store → (x j : ℕ) → ℕ
+routeOf w x j = numberAt w (routeAt x j)
 
-abbrev pub withRoute : Store → (c j : ℕ) → ℕ → Store
-withRoute w c j v = withNumber w (routeAt c j) v
+abbrev pub withRoute : Store → (x j : ℕ) → ℕ → Store
+withRoute w x j v = withNumber w (routeAt x j) v
 
-abbrev pub delayOf : Store → (c j : ℕ) → ℕ
-delayOf w c j = numberAt w (delayAt c j)
+abbrev pub delayOf : Store → (x j : ℕ) → ℕ
+delayOf w x j = numberAt w (delayAt x j)
 
-abbrev pub withDelay : Store → (c j : ℕ) → ℕ → Store
-withDelay w c j v = withNumber w (delayAt c j) v
+abbrev pub withDelay : Store → (x j : ℕ) → ℕ → Store
+withDelay w x j v = withNumber w (delayAt x j) v
 
-abbrev pub sentOf : Store → (c j : ℕ) → ℕ
-sentOf w c j = numberAt w (sentAt c j)
+abbrev pub sentOf : Store → (x j : ℕ) → ℕ
+sentOf w x j = numberAt w (sentAt x j)
 
-abbrev pub withSent : Store → (c j : ℕ) → ℕ → Store
-withSent w c j v = withNumber w (sentAt c j) v
+abbrev pub withSent : Store → (x j : ℕ) → ℕ → Store
+withSent w x j v = withNumber w (sentAt x j) v
 
-abbrev pub timeOf : Store → (c n : ℕ) → ℕ
-timeOf w c n = numberAt w (timeAt c n)
+abbrev pub timeOf : Store → (x n : ℕ) → ℕ
+timeOf w x n = numberAt w (timeAt x n)
 
-abbrev pub withTime : Store → (c n : ℕ) → ℕ → Store
-withTime w c n v = withNumber w (timeAt c n) v
+abbrev pub withTime : Store → (x n : ℕ) → ℕ → Store
+withTime w x n v = withNumber w (timeAt x n) v
 
-abbrev pub endOf : Store → (c n : ℕ) → ℕ
-endOf w c n = numberAt w (endAt c n)
+abbrev pub endOf : Store → (x n : ℕ) → ℕ
+endOf w x n = numberAt w (endAt x n)
 
-abbrev pub withEnd : Store → (c n : ℕ) → ℕ → Store
-withEnd w c n v = withNumber w (endAt c n) v
+abbrev pub withEnd : Store → (x n : ℕ) → ℕ → Store
+withEnd w x n v = withNumber w (endAt x n) v
 
--- the first n numbers of channel c's record are 0
-unfoldable pub cleared : Store → (c n : ℕ) → Store
-cleared w c zero = w
-cleared w c (suc i) = withNumber (cleared w c i) (channelAt c + i) 0
+-- the first n numbers of channel x's record are 0
+unfoldable pub cleared : Store → (x n : ℕ) → Store
+cleared w x zero = w
+cleared w x (suc i) = withNumber (cleared w x i) (channelAt x + i) 0

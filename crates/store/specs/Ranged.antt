@@ -7,18 +7,18 @@ use Rattle.folds.specs.Folds.{every}
 use Rattle.store.specs.Sound.{countsFit, linkFits, channelSound}
 use Rattle.store.specs.Layout.{Store, Long, linksOf, channelsOf, cOf, pOf, bOf, hopsOf, routeOf, delayOf, horizonOf}
 
-pub record Ranged (w : Store) (c : ℕ) : Type 0 where
+pub record Ranged (w : Store) (x : ℕ) : Type 0 where
   pub long : Long w
-  pub channel : c < mostChannels
-  pub hops-most : hopsOf w c ≤ mostHops
-  pub c-most : cOf w c ≤ mostC
-  pub b-most : bOf w c ≤ mostB
-  pub p-least : 1 ≤ pOf w c
-  pub p-most : pOf w c ≤ mostP
-  pub delay-least : (j : ℕ) → j < hopsOf w c → 1 ≤ delayOf w c j
-  pub delay-most : (j : ℕ) → j < hopsOf w c → delayOf w c j ≤ pOf w c
-  pub route-most : (j : ℕ) → j < hopsOf w c → routeOf w c j < mostLinks
-  pub horizon-most : (j : ℕ) → j < hopsOf w c → horizonOf w (routeOf w c j) ≤ mostHorizon
+  pub channel : x < mostChannels
+  pub hops-most : hopsOf w x ≤ mostHops
+  pub c-most : cOf w x ≤ mostC
+  pub b-most : bOf w x ≤ mostB
+  pub p-least : 1 ≤ pOf w x
+  pub p-most : pOf w x ≤ mostP
+  pub delay-least : (j : ℕ) → j < hopsOf w x → 1 ≤ delayOf w x j
+  pub delay-most : (j : ℕ) → j < hopsOf w x → delayOf w x j ≤ pOf w x
+  pub route-most : (j : ℕ) → j < hopsOf w x → routeOf w x j < mostLinks
+  pub horizon-most : (j : ℕ) → j < hopsOf w x → horizonOf w (routeOf w x j) ≤ mostHorizon
 
 -- What the rows of links may rely on, and the parts of soundness that are looked at after it.
 pub record Fit (w : Store) : Type 0 where

@@ -27,40 +27,40 @@ abbrev pub linkFits : Store → (l : ℕ) → Bool
 linkFits w l = linkPasses (fromOf w l) (toOf w l) (horizonOf w l) (bufferOf w l) && inRangeRows (rowsOf w l)
 
 -- "its channels pass 1 to 5"
-abbrev pub channelFits : Store → (c : ℕ) → Bool
-channelFits w c =
-    channelPasses (cOf w c) (pOf w c) (dOf w c) (bOf w c) && (inRangeHops (hopsOf w c) && routePasses w (routeOf w c) (hopsOf w c))
+abbrev pub channelFits : Store → (x : ℕ) → Bool
+channelFits w x =
+    channelPasses (cOf w x) (pOf w x) (dOf w x) (bOf w x) && (inRangeHops (hopsOf w x) && routePasses w (routeOf w x) (hopsOf w x))
 
 -- "delays 1 to p"; and, of the counts: no more has been sent at a place than has come to it
-abbrev pub placeFits : Store → (c j : ℕ) → Bool
-placeFits w c j = within 1 (pOf w c) (delayOf w c j) && leb (sentOf w c j) (enteredOf w c j)
+abbrev pub placeFits : Store → (x j : ℕ) → Bool
+placeFits w x j = within 1 (pOf w x) (delayOf w x j) && leb (sentOf w x j) (enteredOf w x j)
 
 -- all packets of message n, and of those before it, are delivered
-abbrev pub delivered : Store → (c n : ℕ) → Bool
-delivered w c n = leb (endOf w c n) (deliveredOf w c)
+abbrev pub delivered : Store → (x n : ℕ) → Bool
+delivered w x n = leb (endOf w x n) (deliveredOf w x)
 
 -- "messages of one channel on one link have 1 to C packets, logical times at least p apart and rising": message n + 1 and
 -- the one before it, if that is on a link too
-abbrev pub follows : Store → (c n : ℕ) → Bool
-follows w c n =
-    (ltb (endOf w c n) (endOf w c (n + 1)) && leb (endOf w c (n + 1)) (endOf w c n + cOf w c))
-    && (delivered w c n || leb (timeOf w c n + pOf w c) (timeOf w c (n + 1)))
+abbrev pub follows : Store → (x n : ℕ) → Bool
+follows w x n =
+    (ltb (endOf w x n) (endOf w x (n + 1)) && leb (endOf w x (n + 1)) (endOf w x n + cOf w x))
+    && (delivered w x n || leb (timeOf w x n + pOf w x) (timeOf w x (n + 1)))
 
 -- message n and those before it, as far as they are not delivered: all that are not are among the `kept` last ones
-unfoldable pub inOrder : Store → (c n kept : ℕ) → Bool
-inOrder w c n zero = delivered w c n
-inOrder w c zero (suc kept) = delivered w c zero
-inOrder w c (suc n) (suc kept) = delivered w c (suc n) || (follows w c n && inOrder w c n kept)
+unfoldable pub inOrder : Store → (x n kept : ℕ) → Bool
+inOrder w x n zero = delivered w x n
+inOrder w x zero (suc kept) = delivered w x zero
+inOrder w x (suc n) (suc kept) = delivered w x (suc n) || (follows w x n && inOrder w x n kept)
 
 -- "no other slot or message number exceeds 1,000,002,000,000": the last logical time is the largest; and packets accepted
 -- are at most C for each message
-abbrev pub messagesFit : Store → (c : ℕ) → Bool
-messagesFit w c =
-    (isNumber (messagesOf w c) && isNumber (timeOf w c (messagesOf w c)))
-    && (leb (acceptedOf w c) (cOf w c * messagesOf w c) && inOrder w c (messagesOf w c) (ring - 1))
+abbrev pub messagesFit : Store → (x : ℕ) → Bool
+messagesFit w x =
+    (isNumber (messagesOf w x) && isNumber (timeOf w x (messagesOf w x)))
+    && (leb (acceptedOf w x) (cOf w x * messagesOf w x) && inOrder w x (messagesOf w x) (ring - 1))
 
-abbrev pub channelSound : Store → (c : ℕ) → Bool
-channelSound w c = channelFits w c && (every (placeFits w c) (hopsOf w c) && messagesFit w c)
+abbrev pub channelSound : Store → (x : ℕ) → Bool
+channelSound w x = channelFits w x && (every (placeFits w x) (hopsOf w x) && messagesFit w x)
 
 -- "each link's rows are exactly the channels routed over it": a row is a channel at a place of its route, and this link is
 -- there; and (`listed`, below) each place of each route is a row of its link
@@ -95,15 +95,15 @@ rowSound w l k = rowStands w l k && (rowFollows w l k && rowHolds w l k)
 abbrev pub rowsSound : Store → (l : ℕ) → Bool
 rowsSound w l = every (rowSound w l) (rowsOf w l) && leb (sumTo (rowReservedOf w l) (rowsOf w l)) (bufferOf w l)
 
--- row k of link l is channel c at place j
-abbrev pub rowIs : Store → (c j l k : ℕ) → Bool
-rowIs w c j l k = eqb (rowChannelOf w l k) c && eqb (rowPlaceOf w l k) j
+-- row k of link l is channel x at place j
+abbrev pub rowIs : Store → (x j l k : ℕ) → Bool
+rowIs w x j l k = eqb (rowChannelOf w l k) x && eqb (rowPlaceOf w l k) j
 
-abbrev pub listed : Store → (c j : ℕ) → Bool
-listed w c j = some (rowIs w c j (routeOf w c j)) (rowsOf w (routeOf w c j))
+abbrev pub listed : Store → (x j : ℕ) → Bool
+listed w x j = some (rowIs w x j (routeOf w x j)) (rowsOf w (routeOf w x j))
 
-abbrev pub allListed : Store → (c : ℕ) → Bool
-allListed w c = every (listed w c) (hopsOf w c)
+abbrev pub allListed : Store → (x : ℕ) → Bool
+allListed w x = every (listed w x) (hopsOf w x)
 
 -- a store is sound
 unfoldable pub soundOf : Store → Bool

@@ -114,44 +114,44 @@ pub fn passes(store: &[u64], numbers: &[u64], at: usize, n: usize) -> bool
 }
 
 // The packets reserved for a channel at place `j` of its route.
-pub fn reserved(store: &[u64], c: usize, j: usize) -> u64
-    requires { ⌜ Ranged (now store) c ⌝ }
-    requires { ⌜ j < hopsOf (now store) c ⌝ }
-    ensures { λ r. ⌜ r ≡ reservedOf (now (store .entry)) c j ⌝ }
+pub fn reserved(store: &[u64], x: usize, j: usize) -> u64
+    requires { ⌜ Ranged (now store) x ⌝ }
+    requires { ⌜ j < hopsOf (now store) x ⌝ }
+    ensures { λ r. ⌜ r ≡ reservedOf (now (store .entry)) x j ⌝ }
 {
-    let packets = channel::c(store, c);
+    let packets = channel::c(store, x);
     if j == 0 {
-        return channel::b(store, c) * packets;
+        return channel::b(store, x) * packets;
     }
-    let before = channel::route(store, c, j - 1);
-    let early = link::horizon(store, before) + channel::delay(store, c, j - 1);
-    let ahead = early + channel::delay(store, c, j) - 2;
+    let before = channel::route(store, x, j - 1);
+    let early = link::horizon(store, before) + channel::delay(store, x, j - 1);
+    let ahead = early + channel::delay(store, x, j) - 2;
     // both fit 32 bits, where a division is cheaper
-    let times = ahead as u32 / channel::p(store, c) as u32;
+    let times = ahead as u32 / channel::p(store, x) as u32;
     packets * (1 + times as u64)
 }
 
 // The packets that have come to place `j` of a channel's route.
-pub fn entered(store: &[u64], c: usize, j: usize) -> u64
+pub fn entered(store: &[u64], x: usize, j: usize) -> u64
     requires { ⌜ Long (now store) ⌝ }
-    requires { ⌜ c < mostChannels ⌝ }
+    requires { ⌜ x < mostChannels ⌝ }
     requires { ⌜ j < mostHops ⌝ }
-    ensures { λ r. ⌜ r ≡ enteredOf (now (store .entry)) c j ⌝ }
+    ensures { λ r. ⌜ r ≡ enteredOf (now (store .entry)) x j ⌝ }
 {
     if j == 0 {
-        channel::end(store, c, channel::messages(store, c))
+        channel::end(store, x, channel::messages(store, x))
     } else {
-        channel::sent(store, c, j - 1)
+        channel::sent(store, x, j - 1)
     }
 }
 
 // The packets held there.
-pub fn held(store: &[u64], c: usize, j: usize) -> u64
+pub fn held(store: &[u64], x: usize, j: usize) -> u64
     requires { ⌜ Long (now store) ⌝ }
-    requires { ⌜ c < mostChannels ⌝ }
+    requires { ⌜ x < mostChannels ⌝ }
     requires { ⌜ j < mostHops ⌝ }
-    requires { ⌜ sentOf (now store) c j ≤ enteredOf (now store) c j ⌝ }
-    ensures { λ r. ⌜ r ≡ heldOf (now (store .entry)) c j ⌝ }
+    requires { ⌜ sentOf (now store) x j ≤ enteredOf (now store) x j ⌝ }
+    ensures { λ r. ⌜ r ≡ heldOf (now (store .entry)) x j ⌝ }
 {
-    entered(store, c, j) - channel::sent(store, c, j)
+    entered(store, x, j) - channel::sent(store, x, j)
 }

@@ -13,36 +13,36 @@ use Rattle.store_same.proofs.Same.{delay-same, reserved-same}
 use Rattle.store_same.proofs.Settled.{Settled, channels-same, c-kept, p-kept, d-kept, b-kept, hops-kept, route-kept}
 use Rattle.store_same.proofs.Settled.{delay-kept, reserved-kept}
 
-pub record SameNumbers (w w′ : Store) (c : ℕ) : Type 0 where
-  pub there : IsChannel w′ c
-  pub c-is : cOf w′ c ≡ cOf w c
-  pub p-is : pOf w′ c ≡ pOf w c
-  pub d-is : dOf w′ c ≡ dOf w c
-  pub b-is : bOf w′ c ≡ bOf w c
-  pub hops-are : hopsOf w′ c ≡ hopsOf w c
-  pub route-is : (j : ℕ) → j < hopsOf w c → routeOf w′ c j ≡ routeOf w c j
-  pub delay-is : (j : ℕ) → j < hopsOf w c → delayOf w′ c j ≡ delayOf w c j
-  pub reserved-is : (j : ℕ) → j < hopsOf w c → reservedOf w′ c j ≡ reservedOf w c j
+pub record SameNumbers (w w′ : Store) (x : ℕ) : Type 0 where
+  pub there : IsChannel w′ x
+  pub c-is : cOf w′ x ≡ cOf w x
+  pub p-is : pOf w′ x ≡ pOf w x
+  pub d-is : dOf w′ x ≡ dOf w x
+  pub b-is : bOf w′ x ≡ bOf w x
+  pub hops-are : hopsOf w′ x ≡ hopsOf w x
+  pub route-is : (j : ℕ) → j < hopsOf w x → routeOf w′ x j ≡ routeOf w x j
+  pub delay-is : (j : ℕ) → j < hopsOf w x → delayOf w′ x j ≡ delayOf w x j
+  pub reserved-is : (j : ℕ) → j < hopsOf w x → reservedOf w′ x j ≡ reservedOf w x j
 
 module _ {w w′ : Store} (sound : Sound w) where
-  pub settled-numbers : Settled w w′ → (c : ℕ) → IsChannel w c → SameNumbers w w′ c
-  settled-numbers settled c h =
-      let few : c < mostChannels = few-channels sound c h in
+  pub settled-numbers : Settled w w′ → (x : ℕ) → IsChannel w x → SameNumbers w w′ x
+  settled-numbers settled x h =
+      let few : x < mostChannels = few-channels sound x h in
       record {
         there = rw (channels-same settled) h;
-        c-is = c-kept settled c few;
-        p-is = p-kept settled c few;
-        d-is = d-kept settled c few;
-        b-is = b-kept settled c few;
-        hops-are = hops-kept settled c few;
-        route-is = λ j i. route-kept settled c few j (few-places sound c j h i);
-        delay-is = λ j i. delay-kept settled c few j (few-places sound c j h i);
-        reserved-is = reserved-kept settled sound c h;
+        c-is = c-kept settled x few;
+        p-is = p-kept settled x few;
+        d-is = d-kept settled x few;
+        b-is = b-kept settled x few;
+        hops-are = hops-kept settled x few;
+        route-is = λ j i. route-kept settled x few j (few-places sound x j h i);
+        delay-is = λ j i. delay-kept settled x few j (few-places sound x j h i);
+        reserved-is = reserved-kept settled sound x h;
       }
 
-  pub kept-numbers : Keeps w w′ → (c : ℕ) → IsChannel w c → SameNumbers w w′ c
-  kept-numbers keeps c h =
-      let same : SameRecord w w′ c = keeps .channel c h in
+  pub kept-numbers : Keeps w w′ → (x : ℕ) → IsChannel w x → SameNumbers w w′ x
+  kept-numbers keeps x h =
+      let same : SameRecord w w′ x = keeps .channel x h in
       record {
         there = omega (arith, keeps .more);
         c-is = c-same same;
@@ -50,14 +50,14 @@ module _ {w w′ : Store} (sound : Sound w) where
         d-is = d-same same;
         b-is = b-same same;
         hops-are = hops-same same;
-        route-is = λ j i. route-same same j (few-places sound c j h i);
-        delay-is = λ j i. delay-same same j (few-places sound c j h i);
-        reserved-is = reserved-same same (keeps .network) (sound .counts .links-most) (sound .channel c h);
+        route-is = λ j i. route-same same j (few-places sound x j h i);
+        delay-is = λ j i. delay-same same j (few-places sound x j h i);
+        reserved-is = reserved-same same (keeps .network) (sound .counts .links-most) (sound .channel x h);
       }
 
   -- the horizon of a link of its route
-  pub horizon-is : SameNetwork w w′ → {c : ℕ} → SameNumbers w w′ c → IsChannel w c → (j : ℕ) → j < hopsOf w c
-      → horizonOf w′ (routeOf w′ c j) ≡ horizonOf w (routeOf w c j)
-  horizon-is network {c} same h j i =
+  pub horizon-is : SameNetwork w w′ → {x : ℕ} → SameNumbers w w′ x → IsChannel w x → (j : ℕ) → j < hopsOf w x
+      → horizonOf w′ (routeOf w′ x j) ≡ horizonOf w (routeOf w x j)
+  horizon-is network {x} same h j i =
       rw (same .route-is j i)
-      (network .horizon (routeOf w c j) (few-links sound (routeOf w c j) (sound .channel c h .route .known j i)))
+      (network .horizon (routeOf w x j) (few-links sound (routeOf w x j) (sound .channel x h .route .known j i)))

@@ -19,15 +19,15 @@ pub record SameNetwork (w w′ : Store) : Type 0 where
   pub horizon : (l : ℕ) → l < mostLinks → horizonOf w′ l ≡ horizonOf w l
   pub buffer : (l : ℕ) → l < mostLinks → bufferOf w′ l ≡ bufferOf w l
 
--- every number of channel c's record
-pub record SameRecord (w w′ : Store) (c : ℕ) : Type 0 where
-  pub number : (at : ℕ) → channelAt c ≤ at → at < channelAt c + recordLength → numberAt w′ at ≡ numberAt w at
+-- every number of channel x's record
+pub record SameRecord (w w′ : Store) (x : ℕ) : Type 0 where
+  pub number : (at : ℕ) → channelAt x ≤ at → at < channelAt x + recordLength → numberAt w′ at ≡ numberAt w at
 
 -- w′ has the network and the channels of w; it may have more channels
 pub record Keeps (w w′ : Store) : Type 0 where
   pub network : SameNetwork w w′
   pub more : channelsOf w ≤ channelsOf w′
-  pub channel : (c : ℕ) → IsChannel w c → SameRecord w w′ c
+  pub channel : (x : ℕ) → IsChannel w x → SameRecord w w′ x
 
 -- a route that passes 3, 4 and 5
 pub good-same : {w w′ : Store} → SameNetwork w w′ → linksOf w ≤ mostLinks → (route route′ : ℕ → ℕ) (n : ℕ)
@@ -43,66 +43,66 @@ good-same network few route route′ n same g = record {
     most : (j : ℕ) → j < n → route j < mostLinks
     most j h = omega (arith, g .known j h)
 
-module _ {w w′ : Store} {c : ℕ} (same : SameRecord w w′ c) where
+module _ {w w′ : Store} {x : ℕ} (same : SameRecord w w′ x) where
   -- each field
-  pub c-same : cOf w′ c ≡ cOf w c
-  c-same = same .number (cAt c) (omega arith) (omega arith)
+  pub c-same : cOf w′ x ≡ cOf w x
+  c-same = same .number (cAt x) (omega arith) (omega arith)
 
-  pub p-same : pOf w′ c ≡ pOf w c
-  p-same = same .number (pAt c) (omega arith) (omega arith)
+  pub p-same : pOf w′ x ≡ pOf w x
+  p-same = same .number (pAt x) (omega arith) (omega arith)
 
-  pub d-same : dOf w′ c ≡ dOf w c
-  d-same = same .number (dAt c) (omega arith) (omega arith)
+  pub d-same : dOf w′ x ≡ dOf w x
+  d-same = same .number (dAt x) (omega arith) (omega arith)
 
-  pub b-same : bOf w′ c ≡ bOf w c
-  b-same = same .number (bAt c) (omega arith) (omega arith)
+  pub b-same : bOf w′ x ≡ bOf w x
+  b-same = same .number (bAt x) (omega arith) (omega arith)
 
-  pub hops-same : hopsOf w′ c ≡ hopsOf w c
-  hops-same = same .number (hopsAt c) (omega arith) (omega arith)
+  pub hops-same : hopsOf w′ x ≡ hopsOf w x
+  hops-same = same .number (hopsAt x) (omega arith) (omega arith)
 
-  pub messages-same : messagesOf w′ c ≡ messagesOf w c
-  messages-same = same .number (messagesAt c) (omega arith) (omega arith)
+  pub messages-same : messagesOf w′ x ≡ messagesOf w x
+  messages-same = same .number (messagesAt x) (omega arith) (omega arith)
 
-  pub route-same : (j : ℕ) → j < mostHops → routeOf w′ c j ≡ routeOf w c j
-  route-same j h = same .number (routeAt c j) (omega arith) (omega arith)
+  pub route-same : (j : ℕ) → j < mostHops → routeOf w′ x j ≡ routeOf w x j
+  route-same j h = same .number (routeAt x j) (omega arith) (omega arith)
 
-  pub delay-same : (j : ℕ) → j < mostHops → delayOf w′ c j ≡ delayOf w c j
-  delay-same j h = same .number (delayAt c j) (omega arith) (omega arith)
+  pub delay-same : (j : ℕ) → j < mostHops → delayOf w′ x j ≡ delayOf w x j
+  delay-same j h = same .number (delayAt x j) (omega arith) (omega arith)
 
-  pub sent-same : (j : ℕ) → j < mostHops → sentOf w′ c j ≡ sentOf w c j
-  sent-same j h = same .number (sentAt c j) (omega arith) (omega arith)
+  pub sent-same : (j : ℕ) → j < mostHops → sentOf w′ x j ≡ sentOf w x j
+  sent-same j h = same .number (sentAt x j) (omega arith) (omega arith)
 
-  pub time-same : (n : ℕ) → timeOf w′ c n ≡ timeOf w c n
-  time-same n = same .number (timeAt c n) (omega arith) (omega arith)
+  pub time-same : (n : ℕ) → timeOf w′ x n ≡ timeOf w x n
+  time-same n = same .number (timeAt x n) (omega arith) (omega arith)
 
-  pub end-same : (n : ℕ) → endOf w′ c n ≡ endOf w c n
-  end-same n = same .number (endAt c n) (omega arith) (omega arith)
+  pub end-same : (n : ℕ) → endOf w′ x n ≡ endOf w x n
+  end-same n = same .number (endAt x n) (omega arith) (omega arith)
 
   -- each amount
-  pub accepted-same : acceptedOf w′ c ≡ acceptedOf w c
-  accepted-same = rw messages-same (end-same (messagesOf w c))
+  pub accepted-same : acceptedOf w′ x ≡ acceptedOf w x
+  accepted-same = rw messages-same (end-same (messagesOf w x))
 
-  pub entered-same : (j : ℕ) → j < mostHops → enteredOf w′ c j ≡ enteredOf w c j
+  pub entered-same : (j : ℕ) → j < mostHops → enteredOf w′ x j ≡ enteredOf w x j
   unfolding enteredOf
   entered-same zero h = accepted-same
   entered-same (suc j) h = sent-same j (omega arith)
 
-  pub held-same : (j : ℕ) → j < mostHops → heldOf w′ c j ≡ heldOf w c j
+  pub held-same : (j : ℕ) → j < mostHops → heldOf w′ x j ≡ heldOf w x j
   held-same j h = rw (entered-same j h, sent-same j h)
 
   -- the order of its messages
-  module _ (few : hopsOf w c ≤ mostHops) where
-    pub delivered-same : deliveredOf w′ c ≡ deliveredOf w c
-    delivered-same = rw hops-same (sent-same (hopsOf w c - 1) (omega arith))
+  module _ (few : hopsOf w x ≤ mostHops) where
+    pub delivered-same : deliveredOf w′ x ≡ deliveredOf w x
+    delivered-same = rw hops-same (sent-same (hopsOf w x - 1) (omega arith))
 
-    past-same : (n : ℕ) → delivered w′ c n ≡ delivered w c n
+    past-same : (n : ℕ) → delivered w′ x n ≡ delivered w x n
     past-same n = rw (end-same n, delivered-same)
 
-    follows-same : (n : ℕ) → follows w′ c n ≡ follows w c n
+    follows-same : (n : ℕ) → follows w′ x n ≡ follows w x n
     follows-same n =
         rw (past-same n, end-same n, end-same (n + 1), time-same n, time-same (n + 1), c-same, p-same)
 
-    pub order-same : (n kept : ℕ) → inOrder w′ c n kept ≡ inOrder w c n kept
+    pub order-same : (n kept : ℕ) → inOrder w′ x n kept ≡ inOrder w x n kept
     unfolding inOrder
     order-same zero zero = past-same 0
     order-same zero (suc k) = past-same 0
@@ -110,34 +110,34 @@ module _ {w w′ : Store} {c : ℕ} (same : SameRecord w w′ c) where
     order-same (suc n) (suc k) = rw (past-same (suc n), follows-same n, order-same n k)
 
   -- Of a sound record in a sound network: what is reserved, and that it stays sound.
-  module _ (network : SameNetwork w w′) (few : linksOf w ≤ mostLinks) (k : ChannelIs w c) where
-    pub reserved-same : (j : ℕ) → j < hopsOf w c → reservedOf w′ c j ≡ reservedOf w c j
+  module _ (network : SameNetwork w w′) (few : linksOf w ≤ mostLinks) (k : ChannelIs w x) where
+    pub reserved-same : (j : ℕ) → j < hopsOf w x → reservedOf w′ x j ≡ reservedOf w x j
     unfolding reservedOf
     reserved-same zero h = rw (c-same, b-same)
     reserved-same (suc j) h =
         let i : suc j < mostHops = omega (arith, k .hops-most) in
         let l : j < mostHops = omega arith in
-        let m : routeOf w c j < mostLinks = omega (arith, k .route .known j (omega arith)) in
-        rw (c-same, p-same, route-same j l, network .horizon (routeOf w c j) m, delay-same j l, delay-same (suc j) i)
+        let m : routeOf w x j < mostLinks = omega (arith, k .route .known j (omega arith)) in
+        rw (c-same, p-same, route-same j l, network .horizon (routeOf w x j) m, delay-same j l, delay-same (suc j) i)
 
-    pub channel-same : ChannelIs w′ c
+    pub channel-same : ChannelIs w′ x
     channel-same = record {
       good = rw (c-same, p-same, d-same, b-same) (k .good);
       hops-least = rw hops-same (k .hops-least);
       hops-most = rw hops-same (k .hops-most);
       route = rw hops-same
-          (good-same network few (routeOf w c) (routeOf w′ c) (hopsOf w c) (λ j h. route-same j (inside j h)) (k .route));
+          (good-same network few (routeOf w x) (routeOf w′ x) (hopsOf w x) (λ j h. route-same j (inside j h)) (k .route));
       delay-least = λ j h. let i = old j h in rw (delay-same j (inside j i)) (k .delay-least j i);
       delay-most = λ j h. let i = old j h in rw (delay-same j (inside j i), p-same) (k .delay-most j i);
       flows = λ j h. let i = old j h in rw (sent-same j (inside j i), entered-same j (inside j i)) (k .flows j i);
       messages-most = rw messages-same (k .messages-most);
-      time-most = rw (messages-same, time-same (messagesOf w c)) (k .time-most);
+      time-most = rw (messages-same, time-same (messagesOf w x)) (k .time-most);
       accepted-most = rw (accepted-same, c-same, messages-same) (k .accepted-most);
-      order = rw (messages-same, order-same (k .hops-most) (messagesOf w c) (ring - 1)) (k .order);
+      order = rw (messages-same, order-same (k .hops-most) (messagesOf w x) (ring - 1)) (k .order);
     }
       where
-        inside : (j : ℕ) → j < hopsOf w c → j < mostHops
+        inside : (j : ℕ) → j < hopsOf w x → j < mostHops
         inside j h = omega (arith, k .hops-most)
 
-        old : (j : ℕ) → j < hopsOf w′ c → j < hopsOf w c
+        old : (j : ℕ) → j < hopsOf w′ x → j < hopsOf w x
         old j h = rw hops-same at h

@@ -23,22 +23,22 @@ use Rattle.store_same.proofs.Same.{SameNetwork, good-same}
 pub record Settled (w w′ : Store) : Type 0 where
   pub as-long : length w′ ≡ length w
   pub frame : (at : ℕ) → (at ≡ clockAt → ⊥)
-      → ((c : ℕ) → c < mostChannels → at ≡ messagesAt c → ⊥)
-      → ((c : ℕ) → c < mostChannels → sentAt c 0 ≤ at → at < courseEnd c → ⊥)
+      → ((x : ℕ) → x < mostChannels → at ≡ messagesAt x → ⊥)
+      → ((x : ℕ) → x < mostChannels → sentAt x 0 ≤ at → at < courseEnd x → ⊥)
       → numberAt w′ at ≡ numberAt w at
 
 -- of a channel that is sound, what may differ: how far it is
-pub record CourseIs (w : Store) (c : ℕ) : Type 0 where
-  pub flows : (j : ℕ) → j < hopsOf w c → sentOf w c j ≤ enteredOf w c j
-  pub messages-most : messagesOf w c ≤ mostNumber
-  pub time-most : timeOf w c (messagesOf w c) ≤ mostNumber
-  pub accepted-most : acceptedOf w c ≤ cOf w c * messagesOf w c
-  pub order : inOrder w c (messagesOf w c) (ring - 1) ≡ true
+pub record CourseIs (w : Store) (x : ℕ) : Type 0 where
+  pub flows : (j : ℕ) → j < hopsOf w x → sentOf w x j ≤ enteredOf w x j
+  pub messages-most : messagesOf w x ≤ mostNumber
+  pub time-most : timeOf w x (messagesOf w x) ≤ mostNumber
+  pub accepted-most : acceptedOf w x ≤ cOf w x * messagesOf w x
+  pub order : inOrder w x (messagesOf w x) (ring - 1) ≡ true
 
 module _ {w w′ : Store} (s : Settled w w′) where
   -- below the channels' records only the clock differs
   low-same : (at : ℕ) → (at ≡ clockAt → ⊥) → at < channelAt 0 → numberAt w′ at ≡ numberAt w at
-  low-same at other low = s .frame at other (λ c h e. omega arith) (λ c h a b. omega arith)
+  low-same at other low = s .frame at other (λ x h e. omega arith) (λ x h a b. omega arith)
 
   pub links-same : linksOf w′ ≡ linksOf w
   links-same = low-same linksAt (λ e. omega arith) (omega arith)
@@ -65,59 +65,59 @@ module _ {w w′ : Store} (s : Settled w w′) where
     buffer = λ l h. low-same (bufferAt l) (λ e. omega arith) (omega arith);
   }
 
-  module _ (c : ℕ) (h : c < mostChannels) where
+  module _ (x : ℕ) (h : x < mostChannels) where
     -- of its record, the numbers at the front but for how many messages there are
-    front-same : (i : ℕ) → i < 24 → (i ≡ 5 → ⊥) → numberAt w′ (channelAt c + i) ≡ numberAt w (channelAt c + i)
-    front-same i a other = s .frame (channelAt c + i) (λ e. omega arith) (λ x y e. omega arith) (λ x y l m. omega arith)
+    front-same : (i : ℕ) → i < 24 → (i ≡ 5 → ⊥) → numberAt w′ (channelAt x + i) ≡ numberAt w (channelAt x + i)
+    front-same i a other = s .frame (channelAt x + i) (λ e. omega arith) (λ u y e. omega arith) (λ u y l m. omega arith)
 
-    pub c-kept : cOf w′ c ≡ cOf w c
-    c-kept = s .frame (cAt c) (λ e. omega arith) (λ x y e. omega arith) (λ x y l m. omega arith)
+    pub c-kept : cOf w′ x ≡ cOf w x
+    c-kept = s .frame (cAt x) (λ e. omega arith) (λ u y e. omega arith) (λ u y l m. omega arith)
 
-    pub p-kept : pOf w′ c ≡ pOf w c
+    pub p-kept : pOf w′ x ≡ pOf w x
     p-kept = front-same 1 (omega arith) (λ e. omega arith)
 
-    pub d-kept : dOf w′ c ≡ dOf w c
+    pub d-kept : dOf w′ x ≡ dOf w x
     d-kept = front-same 2 (omega arith) (λ e. omega arith)
 
-    pub b-kept : bOf w′ c ≡ bOf w c
+    pub b-kept : bOf w′ x ≡ bOf w x
     b-kept = front-same 3 (omega arith) (λ e. omega arith)
 
-    pub hops-kept : hopsOf w′ c ≡ hopsOf w c
+    pub hops-kept : hopsOf w′ x ≡ hopsOf w x
     hops-kept = front-same 4 (omega arith) (λ e. omega arith)
 
-    pub route-kept : (j : ℕ) → j < mostHops → routeOf w′ c j ≡ routeOf w c j
-    route-kept j i = s .frame (routeAt c j) (λ e. omega arith) (λ x y e. omega arith) (λ x y l m. omega arith)
+    pub route-kept : (j : ℕ) → j < mostHops → routeOf w′ x j ≡ routeOf w x j
+    route-kept j i = s .frame (routeAt x j) (λ e. omega arith) (λ u y e. omega arith) (λ u y l m. omega arith)
 
-    pub delay-kept : (j : ℕ) → j < mostHops → delayOf w′ c j ≡ delayOf w c j
-    delay-kept j i = s .frame (delayAt c j) (λ e. omega arith) (λ x y e. omega arith) (λ x y l m. omega arith)
+    pub delay-kept : (j : ℕ) → j < mostHops → delayOf w′ x j ≡ delayOf w x j
+    delay-kept j i = s .frame (delayAt x j) (λ e. omega arith) (λ u y e. omega arith) (λ u y l m. omega arith)
 
   -- of a sound store
   module _ (sound : Sound w) where
-    module _ (c : ℕ) (h : IsChannel w c) where
-      pub reserved-kept : (j : ℕ) → j < hopsOf w c → reservedOf w′ c j ≡ reservedOf w c j
+    module _ (x : ℕ) (h : IsChannel w x) where
+      pub reserved-kept : (j : ℕ) → j < hopsOf w x → reservedOf w′ x j ≡ reservedOf w x j
       unfolding reservedOf
-      reserved-kept zero i = rw (c-kept c (few-channels sound c h), b-kept c (few-channels sound c h))
+      reserved-kept zero i = rw (c-kept x (few-channels sound x h), b-kept x (few-channels sound x h))
       reserved-kept (suc j) i =
-          let a : c < mostChannels = few-channels sound c h in
-          let l : suc j < mostHops = few-places sound c (suc j) h i in
-          let n : j < mostHops = few-places sound c j h (omega arith) in
-          let m : routeOf w c j < mostLinks =
-          few-links sound (routeOf w c j) (sound .channel c h .route .known j (omega arith)) in
-          rw (c-kept c a, p-kept c a, route-kept c a j n, network-same .horizon (routeOf w c j) m, delay-kept c a j n)
-          (rw (delay-kept c a (suc j) l))
+          let a : x < mostChannels = few-channels sound x h in
+          let l : suc j < mostHops = few-places sound x (suc j) h i in
+          let n : j < mostHops = few-places sound x j h (omega arith) in
+          let m : routeOf w x j < mostLinks =
+          few-links sound (routeOf w x j) (sound .channel x h .route .known j (omega arith)) in
+          rw (c-kept x a, p-kept x a, route-kept x a j n, network-same .horizon (routeOf w x j) m, delay-kept x a j n)
+          (rw (delay-kept x a (suc j) l))
 
-      pub channel-kept : CourseIs w′ c → ChannelIs w′ c
+      pub channel-kept : CourseIs w′ x → ChannelIs w′ x
       channel-kept k = record {
-        good = rw (c-kept c a, p-kept c a, d-kept c a, b-kept c a) (old .good);
-        hops-least = rw (hops-kept c a) (old .hops-least);
-        hops-most = rw (hops-kept c a) (old .hops-most);
-        route = rw (hops-kept c a)
-            (good-same network-same (sound .counts .links-most) (routeOf w c) (routeOf w′ c) (hopsOf w c)
-            (λ j i. route-kept c a j (few-places sound c j h i)) (old .route));
-        delay-least = λ j i. let n = inside j i in rw (delay-kept c a j (few-places sound c j h n)) (old .delay-least j n);
+        good = rw (c-kept x a, p-kept x a, d-kept x a, b-kept x a) (old .good);
+        hops-least = rw (hops-kept x a) (old .hops-least);
+        hops-most = rw (hops-kept x a) (old .hops-most);
+        route = rw (hops-kept x a)
+            (good-same network-same (sound .counts .links-most) (routeOf w x) (routeOf w′ x) (hopsOf w x)
+            (λ j i. route-kept x a j (few-places sound x j h i)) (old .route));
+        delay-least = λ j i. let n = inside j i in rw (delay-kept x a j (few-places sound x j h n)) (old .delay-least j n);
         delay-most = λ j i.
             let n = inside j i in
-            rw (delay-kept c a j (few-places sound c j h n), p-kept c a) (old .delay-most j n);
+            rw (delay-kept x a j (few-places sound x j h n), p-kept x a) (old .delay-most j n);
         flows = k .flows;
         messages-most = k .messages-most;
         time-most = k .time-most;
@@ -125,14 +125,14 @@ module _ {w w′ : Store} (s : Settled w w′) where
         order = k .order;
       }
         where
-          a : c < mostChannels
-          a = few-channels sound c h
+          a : x < mostChannels
+          a = few-channels sound x h
 
-          old : ChannelIs w c
-          old = sound .channel c h
+          old : ChannelIs w x
+          old = sound .channel x h
 
-          inside : (j : ℕ) → j < hopsOf w′ c → j < hopsOf w c
-          inside j i = rw (hops-kept c a) at i
+          inside : (j : ℕ) → j < hopsOf w′ x → j < hopsOf w x
+          inside j i = rw (hops-kept x a) at i
 
     -- a row of link l, as before
     module _ (l : ℕ) (h : l < linksOf w) where
@@ -168,8 +168,8 @@ module _ {w w′ : Store} (s : Settled w w′) where
             (reserved-kept (rowChannelOf w l k) (old .channel) (rowPlaceOf w l k) (old .place))
 
     -- the store is sound where each channel's course is and no place holds more than is reserved there
-    module _ (clock : clockOf w′ ≤ endSlot) (course : (c : ℕ) → IsChannel w c → CourseIs w′ c)
-        (held : (c j : ℕ) → IsChannel w c → j < hopsOf w c → heldOf w′ c j ≤ reservedOf w c j) where
+    module _ (clock : clockOf w′ ≤ endSlot) (course : (x : ℕ) → IsChannel w x → CourseIs w′ x)
+        (held : (x j : ℕ) → IsChannel w x → j < hopsOf w x → heldOf w′ x j ≤ reservedOf w x j) where
       rows-kept : (l : ℕ) → l < linksOf w → RowsAre w′ l
       rows-kept l h = record {
         rows = λ k i. row-kept l h k (inside-old k i);
@@ -207,9 +207,9 @@ module _ {w w′ : Store} (s : Settled w w′) where
           clock-most = clock;
         };
         link = λ l i. link l (rw links-same at i);
-        channel = λ c i. let h = rw channels-same at i in channel-kept c h (course c h);
+        channel = λ x i. let h = rw channels-same at i in channel-kept x h (course x h);
         rows = λ l i. rows-kept l (rw links-same at i);
-        row = λ c j i k. row c j (rw channels-same at i) k;
+        row = λ x j i k. row x j (rw channels-same at i) k;
       }
         where
           link : (l : ℕ) → l < linksOf w → LinkIs w′ l
@@ -221,16 +221,16 @@ module _ {w w′ : Store} (s : Settled w w′) where
                 rows-most = rw (rows-same l a) (sound .link l h .rows-most);
               }
 
-          row : (c j : ℕ) → IsChannel w c → j < hopsOf w′ c → RowFor w′ c j (routeOf w′ c j)
-          row c j h i =
-              let a : c < mostChannels = few-channels sound c h in
-              let k : j < hopsOf w c = rw (hops-kept c a) at i in
-              let x = sound .row c j h k in
-              let m : routeOf w c j < linksOf w = sound .channel c h .route .known j k in
-              rw (route-kept c a j (few-places sound c j h k))
+          row : (x j : ℕ) → IsChannel w x → j < hopsOf w′ x → RowFor w′ x j (routeOf w′ x j)
+          row x j h i =
+              let a : x < mostChannels = few-channels sound x h in
+              let k : j < hopsOf w x = rw (hops-kept x a) at i in
+              let u = sound .row x j h k in
+              let m : routeOf w x j < linksOf w = sound .channel x h .route .known j k in
+              rw (route-kept x a j (few-places sound x j h k))
               (record {
-                at = x .at;
-                inside = rw (rows-same (routeOf w c j) (few-links sound (routeOf w c j) m)) (x .inside);
-                channel = rw (same-channel (routeOf w c j) m (x .at) (x .inside)) (x .channel);
-                place = rw (same-place (routeOf w c j) m (x .at) (x .inside)) (x .place);
+                at = u .at;
+                inside = rw (rows-same (routeOf w x j) (few-links sound (routeOf w x j) m)) (u .inside);
+                channel = rw (same-channel (routeOf w x j) m (u .at) (u .inside)) (u .channel);
+                place = rw (same-place (routeOf w x j) m (u .at) (u .inside)) (u .place);
               })

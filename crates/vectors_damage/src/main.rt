@@ -21,50 +21,50 @@ fn print_number(n: u64) {
 }
 
 // A channel's numbers.
-fn put_numbers(store: &mut [u64], c: usize, packets: u64, p: u64, d: u64, b: u64)
+fn put_numbers(store: &mut [u64], x: usize, packets: u64, p: u64, d: u64, b: u64)
     requires { ⌜ Long (now store) ⌝ }
-    requires { ⌜ c < mostChannels ⌝ }
+    requires { ⌜ x < mostChannels ⌝ }
     ensures { λ _. ⌜ Long (now (store .exit)) ⌝ }
 {
-    channel::put_c(store, c, packets);
-    channel::put_p(store, c, p);
-    channel::put_d(store, c, d);
-    channel::put_b(store, c, b);
+    channel::put_c(store, x, packets);
+    channel::put_p(store, x, p);
+    channel::put_d(store, x, d);
+    channel::put_b(store, x, b);
 }
 
 // Place `j` of a channel's route: its link, the delay there, and how many packets were sent.
-fn put_place(store: &mut [u64], c: usize, j: usize, l: usize, delay: u64, sent: u64)
+fn put_place(store: &mut [u64], x: usize, j: usize, l: usize, delay: u64, sent: u64)
     requires { ⌜ Long (now store) ⌝ }
-    requires { ⌜ c < mostChannels ⌝ }
+    requires { ⌜ x < mostChannels ⌝ }
     requires { ⌜ j < mostHops ⌝ }
     ensures { λ _. ⌜ Long (now (store .exit)) ⌝ }
 {
-    channel::put_hops(store, c, j + 1);
-    channel::put_route(store, c, j, l);
-    channel::put_delay(store, c, j, delay);
-    channel::put_sent(store, c, j, sent);
+    channel::put_hops(store, x, j + 1);
+    channel::put_route(store, x, j, l);
+    channel::put_delay(store, x, j, delay);
+    channel::put_sent(store, x, j, sent);
 }
 
-fn put_row(store: &mut [u64], l: usize, k: usize, c: usize, j: usize)
+fn put_row(store: &mut [u64], l: usize, k: usize, x: usize, j: usize)
     requires { ⌜ Long (now store) ⌝ }
     requires { ⌜ l < mostLinks ⌝ }
     requires { ⌜ k < mostRows ⌝ }
     ensures { λ _. ⌜ Long (now (store .exit)) ⌝ }
 {
     link::put_rows(store, l, k + 1);
-    link::put_row_channel(store, l, k, c);
+    link::put_row_channel(store, l, k, x);
     link::put_row_place(store, l, k, j);
 }
 
 // Message `n` of a channel, the last one.
-fn put_message(store: &mut [u64], c: usize, n: u64, time: u64, end: u64)
+fn put_message(store: &mut [u64], x: usize, n: u64, time: u64, end: u64)
     requires { ⌜ Long (now store) ⌝ }
-    requires { ⌜ c < mostChannels ⌝ }
+    requires { ⌜ x < mostChannels ⌝ }
     ensures { λ _. ⌜ Long (now (store .exit)) ⌝ }
 {
-    channel::put_messages(store, c, n);
-    channel::put_time(store, c, n, time);
-    channel::put_end(store, c, n, end);
+    channel::put_messages(store, x, n);
+    channel::put_time(store, x, n, time);
+    channel::put_end(store, x, n, end);
 }
 
 fn put_first_channel(store: &mut [u64])

@@ -23,7 +23,7 @@ abbrev store : tie.Start → Store
 store s = s .args .store .now
 
 abbrev checks : tie.Start → List Check
-checks s = offerChecks (store s) (s .args .c) (s .args .packets)
+checks s = offerChecks (store s) (s .args .number) (s .args .packets)
 
 -- Where the code has come so far, and the checks that hold there.
 abbrev start-17 : tie.Else1 → tie.Start
@@ -57,7 +57,7 @@ past-11 c =
     one-more (checks (start-11 c)) 2 refl (past-14 (c .before)) (known (c .before .before .channels .ensures) (c .if3 .left))
 
 -- What the functions that read the channel ask.
-inside : (c : tie.Else3) → (soundOf (store (start-11 c)) ≡ true) × (IsChannel (store (start-11 c)) (start-11 c .args .c))
+inside : (c : tie.Else3) → (soundOf (store (start-11 c)) ≡ true) × (IsChannel (store (start-11 c)) (start-11 c .args .number))
 inside c = let h = past-11 c in (h .0, ltb-true _ _ (h .1 .1 .0))
 
 past-12 : (c : tie.Else4) → AllHold (take 4 (checks (start-12 c)))
@@ -69,7 +69,7 @@ past-13 c =
     one-more (checks (start-13 c)) 4 refl (past-12 (c .before .before .before))
     (held (c .before .in-burst .ensures) (c .if5 .left))
 
-passed : (c : tie.Else5) → Passed (store (start-13 c)) (start-13 c .args .c) (start-13 c .args .packets)
+passed : (c : tie.Else5) → Passed (store (start-13 c)) (start-13 c .args .number) (start-13 c .args .packets)
 passed c = passed-is _ _ _ (past-13 c)
 
 past-room : (c : tie.Else6) → AllHold (checks (start-room c))
@@ -84,7 +84,7 @@ is-sound-requires c κs = search needs
 returns : tie.Need-returns
 returns c =
     let s = c .before .before .before in
-    answer-refused (store s) (s .args .c) (s .args .packets) 0 refl tt (refuted (c .before .is-sound .ensures) (c .if1 .taken))
+    answer-refused (store s) (s .args .number) (s .args .packets) 0 refl tt (refuted (c .before .is-sound .ensures) (c .if1 .taken))
 
 clock-requires : tie.Need-clock-requires
 clock-requires c κs = sound-is (store (start-17 c)) (past-17 c .0) .long
@@ -96,13 +96,13 @@ returns-2 : tie.Need-returns-2
 returns-2 c =
     let k = c .before .before in
     let s = start-17 (k .before) in
-    answer-refused (store s) (s .args .c) (s .args .packets) 1 refl (past-17 (k .before))
+    answer-refused (store s) (s .args .number) (s .args .packets) 1 refl (past-17 (k .before))
     (at-least (k .clock .ensures) (c .if2 .taken))
 
 returns-3 : tie.Need-returns-3
 returns-3 c =
     let s = start-14 (c .before) in
-    answer-refused (store s) (s .args .c) (s .args .packets) 2 refl (past-14 (c .before))
+    answer-refused (store s) (s .args .number) (s .args .packets) 2 refl (past-14 (c .before))
     (unknown (c .before .before .channels .ensures) (c .if3 .taken))
 
 is-message-requires : tie.Need-is-message-requires
@@ -112,7 +112,7 @@ returns-4 : tie.Need-returns-4
 returns-4 c =
     let t = c .before .before in
     let s = start-11 t in
-    answer-refused (store s) (s .args .c) (s .args .packets) 3 refl (past-11 t)
+    answer-refused (store s) (s .args .number) (s .args .packets) 3 refl (past-11 t)
     (refuted (c .before .is-message .ensures) (c .if4 .taken))
 
 next-time-requires : tie.Need-next-time-requires
@@ -125,7 +125,7 @@ returns-5 : tie.Need-returns-5
 returns-5 c =
     let t = c .before .before .before in
     let s = start-12 t in
-    answer-refused (store s) (s .args .c) (s .args .packets) 4 refl (past-12 t)
+    answer-refused (store s) (s .args .number) (s .args .packets) 4 refl (past-12 t)
     (refuted (c .before .in-burst .ensures) (c .if5 .taken))
 
 has-room-requires : tie.Need-has-room-requires
@@ -135,7 +135,7 @@ returns-6 : tie.Need-returns-6
 returns-6 c =
     let t = c .before .before in
     let s = start-13 t in
-    answer-refused (store s) (s .args .c) (s .args .packets) 5 refl (past-13 t)
+    answer-refused (store s) (s .args .number) (s .args .packets) 5 refl (past-13 t)
     (room-decides _ _ _ (passed t) ∙ refuted (c .before .has-room .ensures) (c .if6 .taken))
 
 messages-requires : tie.Need-messages-requires
@@ -147,7 +147,7 @@ returns-7 c =
     let n = t .before .before .before .before in
     let s = start-room t in
     rw (c .messages .ensures, n .next-time .ensures)
-    (sym (answer-accepted (store s) (s .args .c) (s .args .packets) (past-room t)))
+    (sym (answer-accepted (store s) (s .args .number) (s .args .packets) (past-room t)))
 
 pub answer-spec : {M : Type 1} → statement M
 answer-spec =

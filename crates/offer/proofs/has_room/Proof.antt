@@ -21,7 +21,7 @@ returns : tie.Need-returns
 returns c =
     let n = c .before in
     let s = n .before .before .before in
-    room-uncounted (s .args .store .now) (s .args .c) _ _ (n .before .messages .ensures) (n .is-number .ensures) (c .if1 .taken)
+    room-uncounted (s .args .store .now) (s .args .x) _ _ (n .before .messages .ensures) (n .is-number .ensures) (c .if1 .taken)
 
 sub-in-order : tie.Need-sub-in-order
 sub-in-order c = search needs
@@ -38,7 +38,7 @@ returns-2 c =
     let i = c .before .before in
     let n = i .before in
     let s = n .before .before .before in
-    room-unkept (s .args .store .now) (s .args .c) _ _ (n .before .messages .ensures) (n .is-number .ensures) (i .if1 .left)
+    room-unkept (s .args .store .now) (s .args .x) _ _ (n .before .messages .ensures) (n .is-number .ensures) (i .if1 .left)
     (c .before .in-order .ensures) (c .if2 .taken)
 
 held-requires : tie.Need-held-requires
@@ -65,7 +65,7 @@ returns-3 c =
     let i = o .before .before in
     let n = i .before in
     let s = n .before .before .before in
-    room-is (s .args .store .now) (s .args .c) _ _ (n .before .messages .ensures) (n .is-number .ensures) (i .if1 .left)
+    room-is (s .args .store .now) (s .args .x) _ _ (n .before .messages .ensures) (n .is-number .ensures) (i .if1 .left)
     (o .before .in-order .ensures) (o .if2 .left) _ _ (h .held .ensures) (c .reserved .ensures)
 
 pub has-room-spec : {M : Type 1} → statement M

@@ -11,7 +11,7 @@ clock-requires c κs = let s = c .before in long _ _ (s .pre .0) (s .pre .1 .0)
 sub-ahead : tie.Need-sub-ahead
 sub-ahead c =
     let s = c .before .before in
-    time-least (s .args .store .now) (s .args .c) _ _ (s .pre .1 .1) (c .clock .ensures)
+    time-least (s .args .store .now) (s .args .x) _ _ (s .pre .1 .1) (c .clock .ensures)
 
 b-requires : tie.Need-b-requires
 b-requires c κs =
@@ -37,7 +37,7 @@ mul-result c =
 returns : tie.Need-returns
 returns c =
     let s = c .before .before .before .before in
-    burst-is (s .args .store .now) (s .args .c) _ _ _ _ (s .pre .1 .1) (c .before .before .clock .ensures) (c .before .b .ensures)
+    burst-is (s .args .store .now) (s .args .x) _ _ _ _ (s .pre .1 .1) (c .before .before .clock .ensures) (c .before .b .ensures)
     (c .p .ensures)
 
 pub in-burst-spec : {M : Type 1} → statement M

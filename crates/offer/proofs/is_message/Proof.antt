@@ -10,12 +10,12 @@ c-requires c κs = let s = c .before .before in readable _ _ (s .pre .0) (s .pre
 returns : tie.Need-returns
 returns c =
     let s = c .before .before .before in
-    size-is (s .args .store .now) (s .args .c) _ _ (c .before .if1 .taken) (c .c .ensures)
+    size-is (s .args .store .now) (s .args .x) _ _ (c .before .if1 .taken) (c .c .ensures)
 
 returns-2 : tie.Need-returns-2
 returns-2 c =
     let s = c .before .before in
-    size-none (s .args .store .now) (s .args .c) _ (c .if1 .left)
+    size-none (s .args .store .now) (s .args .x) _ (c .if1 .left)
 
 pub is-message-spec : {M : Type 1} → statement M
 is-message-spec = tie.close (tie.spec c-requires returns returns-2)

@@ -14,7 +14,7 @@ returns : tie.Need-returns
 returns c =
     let m = c .before in
     let s = m .before .before .before in
-    time-first (s .args .store .now) (s .args .c) _ _ (m .before .clock .ensures) (m .messages .ensures) (c .if1 .taken)
+    time-first (s .args .store .now) (s .args .x) _ _ (m .before .clock .ensures) (m .messages .ensures) (c .if1 .taken)
 
 time-requires : tie.Need-time-requires
 time-requires c κs = let s = c .before .before .before .before in readable _ _ (s .pre .0) (s .pre .1)
@@ -34,7 +34,7 @@ returns-2 c =
     let z = p .before .before in
     let m = z .before in
     let s = m .before .before .before in
-    time-after (s .args .store .now) (s .args .c) _ _ (m .before .clock .ensures) (m .messages .ensures) (z .if1 .left) _ _
+    time-after (s .args .store .now) (s .args .x) _ _ (m .before .clock .ensures) (m .messages .ensures) (z .if1 .left) _ _
     (p .before .time .ensures) (p .p .ensures) (c .if2 .taken)
 
 returns-3 : tie.Need-returns-3
@@ -43,7 +43,7 @@ returns-3 c =
     let z = p .before .before in
     let m = z .before in
     let s = m .before .before .before in
-    time-present (s .args .store .now) (s .args .c) _ _ (m .before .clock .ensures) (m .messages .ensures) (z .if1 .left) _ _
+    time-present (s .args .store .now) (s .args .x) _ _ (m .before .clock .ensures) (m .messages .ensures) (z .if1 .left) _ _
     (p .before .time .ensures) (p .p .ensures) (c .if2 .left)
 
 pub next-time-spec : {M : Type 1} → statement M

@@ -17,7 +17,7 @@ store c = start c .args .store .now
 
 -- the definition's answer to this call
 abbrev answer : tie.After-answer → Offered
-answer c = offerAnswer (store c) (start c .args .c) (start c .args .packets)
+answer c = offerAnswer (store c) (start c .args .number) (start c .args .packets)
 
 accepted : (c : tie.After-offered)
     → answer (c .before .before) ≡ Accepted (c .offered .given .0 .0) (c .offered .given .0 .1 .0)

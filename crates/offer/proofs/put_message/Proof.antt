@@ -44,7 +44,7 @@ returns c =
     let one = two .before .before .before .before in
     let e = one .before .before in
     let s = e .before .before .before in
-    message-put (s .args .store .now) _ _ _ (s .args .c) _ _ _ _ (s .pre .1 .1 .1 .0) (s .pre .1 .1 .1 .1) (e .end .ensures)
+    message-put (s .args .store .now) _ _ _ (s .args .x) _ _ _ _ (s .pre .1 .1 .1 .0) (s .pre .1 .1 .1 .1) (e .end .ensures)
     (one .put-time .ensures) (two .put-end .ensures) (three .put-messages .ensures)
 
 pub put-message-spec : {M : Type 1} → statement M

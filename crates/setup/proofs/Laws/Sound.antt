@@ -64,9 +64,9 @@ module _ (w : Store) (numbers : List ℕ) (a : Accepted w numbers) where
         long = fresh-long w numbers (a .long);
         counts = counts;
         link = link;
-        channel = λ c h. absurd (omega (arith, fresh-channels w numbers));
+        channel = λ x h. absurd (omega (arith, fresh-channels w numbers));
         rows = rows;
-        row = λ c j h k. absurd (omega (arith, fresh-channels w numbers));
+        row = λ x j h k. absurd (omega (arith, fresh-channels w numbers));
       }
 
 pub set-up-sound : (w : Store) (numbers : List ℕ) → setUpAnswer w numbers ≡ Ready → soundOf (setUpStore w numbers) ≡ true

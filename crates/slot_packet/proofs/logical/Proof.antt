@@ -11,7 +11,7 @@ abbrev start : tie.After-offset → tie.Start
 start c = c .before .before .before .before
 
 sum-is : (c : tie.After-offset)
-    → c .before .time-in .result + c .offset .result ≡ logicalOf (start c .args .store .now) (start c .args .c) (start c .args .j)
+    → c .before .time-in .result + c .offset .result ≡ logicalOf (start c .args .store .now) (start c .args .x) (start c .args .j)
 sum-is c =
     logical-is _ _ _ _ _ _ (c .before .before .next .ensures) (c .before .time-in .ensures) (c .offset .ensures)
 

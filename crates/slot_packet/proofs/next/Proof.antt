@@ -8,10 +8,10 @@ use Rattle.slot_packet.proofs.next.Statement.{statement}
 use Rattle.slot_packet.proofs.next.Tie as tie
 
 abbrev Inv-loop : tie.InvT-loop
-Inv-loop store c j sent n₀ at₀ left₀ n at left = Looking store c j sent n at left
+Inv-loop store x j sent n₀ at₀ left₀ n at left = Looking store x j sent n at left
 
 abbrev μ-loop : tie.MeasureT-loop
-μ-loop store c j sent n₀ at₀ left₀ n at left = left
+μ-loop store x j sent n₀ at₀ left₀ n at left = left
 
 sent-requires : tie.Need-sent-requires Inv-loop μ-loop
 sent-requires c κs = search needs

@@ -9,10 +9,10 @@ use Rattle.slot_packet.proofs.offset.Statement.{statement}
 use Rattle.slot_packet.proofs.offset.Tie as tie
 
 abbrev Inv-loop : tie.InvT-loop
-Inv-loop store c j sum₀ i₀ sum i = Adding (delayOf store c) mostP j i sum
+Inv-loop store x j sum₀ i₀ sum i = Adding (delayOf store x) mostP j i sum
 
 abbrev μ-loop : tie.MeasureT-loop
-μ-loop store c j sum₀ i₀ sum i = j - i
+μ-loop store x j sum₀ i₀ sum i = j - i
 
 -- the delay that was read is in range
 small : (d : tie.After-delay Inv-loop μ-loop) → d .delay .result ≤ mostP

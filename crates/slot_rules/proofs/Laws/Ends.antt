@@ -12,39 +12,39 @@ use Rattle.store.specs.Sound.{inOrder}
 use Rattle.slot_rules.specs.Head.{messageWith}
 use Rattle.slot_rules.proofs.Laws.Head.{follows-is}
 
-pub message-same : (w w′ : Store) (c x n kept : ℕ) → ((m : ℕ) → m < n → n ≤ m + kept → endOf w′ c m ≡ endOf w c m)
-    → messageWith w′ c x n kept ≡ messageWith w c x n kept
+pub message-same : (w w′ : Store) (x u n kept : ℕ) → ((m : ℕ) → m < n → n ≤ m + kept → endOf w′ x m ≡ endOf w x m)
+    → messageWith w′ x u n kept ≡ messageWith w x u n kept
 unfolding messageWith
-message-same w w′ c x n zero same = refl
-message-same w w′ c x zero (suc kept) same = refl
-message-same w w′ c x (suc n) (suc kept) same =
-    go (leb (endOf w c n) x) refl (message-same w w′ c x n kept (λ m h i. same m (omega arith) (omega arith)))
+message-same w w′ x u n zero same = refl
+message-same w w′ x u zero (suc kept) same = refl
+message-same w w′ x u (suc n) (suc kept) same =
+    go (leb (endOf w x n) u) refl (message-same w w′ x u n kept (λ m h i. same m (omega arith) (omega arith)))
   where
-    now : endOf w′ c n ≡ endOf w c n
+    now : endOf w′ x n ≡ endOf w x n
     now = same n (omega arith) (omega arith)
 
-    go : (b : Bool) → leb (endOf w c n) x ≡ b → messageWith w′ c x n kept ≡ messageWith w c x n kept
-        → messageWith w′ c x (suc n) (suc kept) ≡ messageWith w c x (suc n) (suc kept)
-    go true e r = let f : leb (endOf w′ c n) x ≡ true = rw now e in rw (e, f, messageWith)
-    go false e r = let f : leb (endOf w′ c n) x ≡ false = rw now e in rw (e, f, messageWith) r
+    go : (b : Bool) → leb (endOf w x n) u ≡ b → messageWith w′ x u n kept ≡ messageWith w x u n kept
+        → messageWith w′ x u (suc n) (suc kept) ≡ messageWith w x u (suc n) (suc kept)
+    go true e r = let f : leb (endOf w′ x n) u ≡ true = rw now e in rw (e, f, messageWith)
+    go false e r = let f : leb (endOf w′ x n) u ≡ false = rw now e in rw (e, f, messageWith) r
 
--- a message more, after that of packet x
-pub message-before : (w : Store) (c x n kept : ℕ) → x < endOf w c n
-    → messageWith w c x (suc n) (suc kept) ≡ messageWith w c x n kept
+-- a message more, after that of packet u
+pub message-before : (w : Store) (x u n kept : ℕ) → u < endOf w x n
+    → messageWith w x u (suc n) (suc kept) ≡ messageWith w x u n kept
 unfolding messageWith
-message-before w c x n kept h = rw (lt-leb (endOf w c n) x h, messageWith)
+message-before w x u n kept h = rw (lt-leb (endOf w x n) u h, messageWith)
 
 -- one kept more
-pub message-kept : (w : Store) (c x n kept : ℕ) → deliveredOf w c ≤ x → inOrder w c n kept ≡ true → x < endOf w c n
-    → messageWith w c x n (suc kept) ≡ messageWith w c x n kept
+pub message-kept : (w : Store) (x u n kept : ℕ) → deliveredOf w x ≤ u → inOrder w x n kept ≡ true → u < endOf w x n
+    → messageWith w x u n (suc kept) ≡ messageWith w x u n kept
 unfolding inOrder messageWith
-message-kept w c x n zero past o h = absurd (omega (arith, leb-true (endOf w c n) (deliveredOf w c) o))
-message-kept w c x zero (suc kept) past o h = refl
-message-kept w c x (suc n) (suc kept) past o h =
-    go (leb (endOf w c n) x) refl (message-kept w c x n kept past (follows-is w c x past n kept h o .1))
+message-kept w x u n zero past o h = absurd (omega (arith, leb-true (endOf w x n) (deliveredOf w x) o))
+message-kept w x u zero (suc kept) past o h = refl
+message-kept w x u (suc n) (suc kept) past o h =
+    go (leb (endOf w x n) u) refl (message-kept w x u n kept past (follows-is w x u past n kept h o .1))
   where
-    go : (b : Bool) → leb (endOf w c n) x ≡ b
-        → (x < endOf w c n → messageWith w c x n (suc kept) ≡ messageWith w c x n kept)
-        → messageWith w c x (suc n) (suc (suc kept)) ≡ messageWith w c x (suc n) (suc kept)
+    go : (b : Bool) → leb (endOf w x n) u ≡ b
+        → (u < endOf w x n → messageWith w x u n (suc kept) ≡ messageWith w x u n kept)
+        → messageWith w x u (suc n) (suc (suc kept)) ≡ messageWith w x u (suc n) (suc kept)
     go true e r = rw (e, messageWith)
-    go false e r = rw (e, messageWith) (r (leb-false (endOf w c n) x e))
+    go false e r = rw (e, messageWith) (r (leb-false (endOf w x n) u e))

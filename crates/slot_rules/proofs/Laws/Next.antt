@@ -1,4 +1,4 @@
--- The message of packet x and that of packet x + 1, in a sound channel: they are one, or packet x is the last of its message and
+-- The message of packet i and that of packet i + 1, in a sound channel: they are one, or packet i is the last of its message and
 -- the other is of the next.
 use Prim.Native.Nat.{ℕ, zero, suc, _+_, _≤_, _<_}
 use mathlib.Core.Path.{_≡_, refl}
@@ -14,43 +14,43 @@ use Rattle.store.specs.Sound.{follows, inOrder}
 use Rattle.slot_rules.specs.Head.{messageWith}
 use Rattle.slot_rules.proofs.Laws.Head.{follows-is}
 
--- packet x is of message r, and packet x + 1 of message r′
-abbrev pub NextIs : Store → (c x r r′ : ℕ) → Type 0
-NextIs w c x r r′ = (r′ ≡ r) ⊎ ((r′ ≡ r + 1) × (x + 1 ≡ endOf w c r))
+-- packet i is of message r, and packet i + 1 of message r′
+abbrev pub NextIs : Store → (x i r r′ : ℕ) → Type 0
+NextIs w x i r r′ = (r′ ≡ r) ⊎ ((r′ ≡ r + 1) × (i + 1 ≡ endOf w x r))
 
-module _ (w : Store) (c x : ℕ) (past : deliveredOf w c ≤ x) where
+module _ (w : Store) (x i : ℕ) (past : deliveredOf w x ≤ i) where
   -- a message has a packet
-  follows-rises : (n : ℕ) → follows w c n ≡ true → endOf w c n < endOf w c (suc n)
+  follows-rises : (n : ℕ) → follows w x n ≡ true → endOf w x n < endOf w x (suc n)
   follows-rises n f =
-      let a = and-eq-true-iff (ltb (endOf w c n) (endOf w c (n + 1)) && leb (endOf w c (n + 1)) (endOf w c n + cOf w c)) _ .0 f in
-      let b = and-eq-true-iff (ltb (endOf w c n) (endOf w c (n + 1))) _ .0 (a .0) in
-      rw (add-one n) at (ltb-true (endOf w c n) (endOf w c (n + 1)) (b .0))
+      let a = and-eq-true-iff (ltb (endOf w x n) (endOf w x (n + 1)) && leb (endOf w x (n + 1)) (endOf w x n + cOf w x)) _ .0 f in
+      let b = and-eq-true-iff (ltb (endOf w x n) (endOf w x (n + 1))) _ .0 (a .0) in
+      rw (add-one n) at (ltb-true (endOf w x n) (endOf w x (n + 1)) (b .0))
 
-  -- message n, if packet x is its last one
-  message-last : (n kept : ℕ) → inOrder w c n kept ≡ true → endOf w c n ≡ x + 1 → messageWith w c x n kept ≡ n
+  -- message n, if packet i is its last one
+  message-last : (n kept : ℕ) → inOrder w x n kept ≡ true → endOf w x n ≡ i + 1 → messageWith w x i n kept ≡ n
   unfolding inOrder messageWith
   message-last n zero o e = refl
   message-last zero (suc kept) o e = refl
   message-last (suc n) (suc kept) o e =
-      let f = follows-is w c x past n kept (omega arith) o in
-      rw (le-leb (endOf w c n) x (omega (arith, follows-rises n (f .0))), messageWith)
+      let f = follows-is w x i past n kept (omega arith) o in
+      rw (le-leb (endOf w x n) i (omega (arith, follows-rises n (f .0))), messageWith)
 
-  pub message-next : (n kept : ℕ) → inOrder w c n kept ≡ true → x + 1 < endOf w c n
-      → NextIs w c x (messageWith w c x n kept) (messageWith w c (x + 1) n kept)
+  pub message-next : (n kept : ℕ) → inOrder w x n kept ≡ true → i + 1 < endOf w x n
+      → NextIs w x i (messageWith w x i n kept) (messageWith w x (i + 1) n kept)
   unfolding inOrder messageWith
-  message-next n zero o h = absurd (omega (arith, leb-true (endOf w c n) (deliveredOf w c) o))
-  message-next zero (suc kept) o h = absurd (omega (arith, leb-true (endOf w c zero) (deliveredOf w c) o))
+  message-next n zero o h = absurd (omega (arith, leb-true (endOf w x n) (deliveredOf w x) o))
+  message-next zero (suc kept) o h = absurd (omega (arith, leb-true (endOf w x zero) (deliveredOf w x) o))
   message-next (suc n) (suc kept) o h =
-      go (leb (endOf w c n) x) (leb (endOf w c n) (x + 1)) refl refl (follows-is w c x past n kept (omega arith) o .1)
+      go (leb (endOf w x n) i) (leb (endOf w x n) (i + 1)) refl refl (follows-is w x i past n kept (omega arith) o .1)
       (message-next n kept)
     where
-      go : (a b : Bool) → leb (endOf w c n) x ≡ a → leb (endOf w c n) (x + 1) ≡ b → inOrder w c n kept ≡ true
-          → (inOrder w c n kept ≡ true → x + 1 < endOf w c n
-          → NextIs w c x (messageWith w c x n kept) (messageWith w c (x + 1) n kept))
-          → NextIs w c x (messageWith w c x (suc n) (suc kept)) (messageWith w c (x + 1) (suc n) (suc kept))
+      go : (a b : Bool) → leb (endOf w x n) i ≡ a → leb (endOf w x n) (i + 1) ≡ b → inOrder w x n kept ≡ true
+          → (inOrder w x n kept ≡ true → i + 1 < endOf w x n
+          → NextIs w x i (messageWith w x i n kept) (messageWith w x (i + 1) n kept))
+          → NextIs w x i (messageWith w x i (suc n) (suc kept)) (messageWith w x (i + 1) (suc n) (suc kept))
       go true true e f p r = rw (e, f, messageWith) (inl refl)
-      go true false e f p r = absurd (omega (arith, leb-true (endOf w c n) x e, leb-false (endOf w c n) (x + 1) f))
+      go true false e f p r = absurd (omega (arith, leb-true (endOf w x n) i e, leb-false (endOf w x n) (i + 1) f))
       go false true e f p r =
-          let l : endOf w c n ≡ x + 1 = omega (arith, leb-false (endOf w c n) x e, leb-true (endOf w c n) (x + 1) f) in
+          let l : endOf w x n ≡ i + 1 = omega (arith, leb-false (endOf w x n) i e, leb-true (endOf w x n) (i + 1) f) in
           rw (e, f, messageWith, message-last n kept p l) (inr (omega arith, omega arith))
-      go false false e f p r = rw (e, f, messageWith) (r p (leb-false (endOf w c n) (x + 1) f))
+      go false false e f p r = rw (e, f, messageWith) (r p (leb-false (endOf w x n) (i + 1) f))

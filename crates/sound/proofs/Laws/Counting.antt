@@ -106,28 +106,28 @@ module _ (f : ℕ → Bool) (n : ℕ) where
   count-less e = rw (sum-ones n) at (sum-less (count f) one f n counts skips n (omega arith) e)
 
 -- Rows on links against places of channels: H says whether a row is a place. A row is one place, and a place is r rows.
-module _ (links channels : ℕ) (rows hops : ℕ → ℕ) (H : (c j l k : ℕ) → ℕ) (r : (c j : ℕ) → ℕ)
-    (one-place : (l k : ℕ) → l < links → k < rows l → sumTo (λ c. sumTo (λ j. H c j l k) (hops c)) channels ≡ 1)
-    (of-place : (c j : ℕ) → c < channels → j < hops c → sumTo (λ l. sumTo (H c j l) (rows l)) links ≡ r c j) where
-  -- the rows of link l that are places of channel c; the rows of link l
-  abbrev of-both : (c l : ℕ) → ℕ
-  of-both c l = sumTo (λ k. sumTo (λ j. H c j l k) (hops c)) (rows l)
+module _ (links channels : ℕ) (rows hops : ℕ → ℕ) (H : (x j l k : ℕ) → ℕ) (r : (x j : ℕ) → ℕ)
+    (one-place : (l k : ℕ) → l < links → k < rows l → sumTo (λ x. sumTo (λ j. H x j l k) (hops x)) channels ≡ 1)
+    (of-place : (x j : ℕ) → x < channels → j < hops x → sumTo (λ l. sumTo (H x j l) (rows l)) links ≡ r x j) where
+  -- the rows of link l that are places of channel x; the rows of link l
+  abbrev of-both : (x l : ℕ) → ℕ
+  of-both x l = sumTo (λ k. sumTo (λ j. H x j l k) (hops x)) (rows l)
 
-  of-link : (l : ℕ) → l < links → rows l ≡ sumTo (λ c. of-both c l) channels
+  of-link : (l : ℕ) → l < links → rows l ≡ sumTo (λ x. of-both x l) channels
   of-link l h =
       sym (sum-ones (rows l))
-      ∙ sum-same one (λ k. sumTo (λ c. sumTo (λ j. H c j l k) (hops c)) channels) (rows l) (λ k g. sym (one-place l k h g))
-      ∙ sum-swap (λ k c. sumTo (λ j. H c j l k) (hops c)) channels (rows l)
+      ∙ sum-same one (λ k. sumTo (λ x. sumTo (λ j. H x j l k) (hops x)) channels) (rows l) (λ k g. sym (one-place l k h g))
+      ∙ sum-swap (λ k x. sumTo (λ j. H x j l k) (hops x)) channels (rows l)
 
-  of-channel : (c : ℕ) → c < channels → sumTo (of-both c) links ≡ sumTo (r c) (hops c)
-  of-channel c h =
-      sum-same (of-both c) (λ l. sumTo (λ j. sumTo (H c j l) (rows l)) (hops c)) links
-      (λ l g. sum-swap (λ k j. H c j l k) (hops c) (rows l))
-      ∙ sum-swap (λ l j. sumTo (H c j l) (rows l)) (hops c) links
-      ∙ sum-same (λ j. sumTo (λ l. sumTo (H c j l) (rows l)) links) (r c) (hops c) (λ j g. of-place c j h g)
+  of-channel : (x : ℕ) → x < channels → sumTo (of-both x) links ≡ sumTo (r x) (hops x)
+  of-channel x h =
+      sum-same (of-both x) (λ l. sumTo (λ j. sumTo (H x j l) (rows l)) (hops x)) links
+      (λ l g. sum-swap (λ k j. H x j l k) (hops x) (rows l))
+      ∙ sum-swap (λ l j. sumTo (H x j l) (rows l)) (hops x) links
+      ∙ sum-same (λ j. sumTo (λ l. sumTo (H x j l) (rows l)) links) (r x) (hops x) (λ j g. of-place x j h g)
 
-  pub all-rows : sumTo rows links ≡ sumTo (λ c. sumTo (r c) (hops c)) channels
+  pub all-rows : sumTo rows links ≡ sumTo (λ x. sumTo (r x) (hops x)) channels
   all-rows =
-      sum-same rows (λ l. sumTo (λ c. of-both c l) channels) links of-link
-      ∙ sum-swap (λ l c. of-both c l) channels links
-      ∙ sum-same (λ c. sumTo (of-both c) links) (λ c. sumTo (r c) (hops c)) channels of-channel
+      sum-same rows (λ l. sumTo (λ x. of-both x l) channels) links of-link
+      ∙ sum-swap (λ l x. of-both x l) channels links
+      ∙ sum-same (λ x. sumTo (of-both x) links) (λ x. sumTo (r x) (hops x)) channels of-channel

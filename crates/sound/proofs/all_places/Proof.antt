@@ -11,10 +11,10 @@ use Rattle.sound.proofs.all_places.Statement.{statement}
 use Rattle.sound.proofs.all_places.Tie as tie
 
 abbrev Inv-loop : tie.InvT-loop
-Inv-loop store channels sum₀ c₀ sum c = Adding (hopsOf store) mostHops (channelsOf store) c sum
+Inv-loop store channels sum₀ x₀ sum x = Adding (hopsOf store) mostHops (channelsOf store) x sum
 
 abbrev μ-loop : tie.MeasureT-loop
-μ-loop store channels sum₀ c₀ sum c = channels - c
+μ-loop store channels sum₀ x₀ sum x = channels - x
 
 -- a route has few places
 few : (c : tie.After-hops Inv-loop μ-loop) → c .hops .result ≤ mostHops
@@ -41,8 +41,8 @@ add-sum c =
     let n = fit-counts _ (a .before .before .before .pre) in
     adding-fits _ _ _ _ _ (a .loop .inv) (omega (arith, n .channels-most)) (omega arith) _ (few c)
 
-add-c : tie.Need-add-c Inv-loop μ-loop
-add-c c = omega arith
+add-x : tie.Need-add-x Inv-loop μ-loop
+add-x c = omega arith
 
 loop-less : tie.Need-loop-less Inv-loop μ-loop
 loop-less c = omega arith
@@ -63,7 +63,7 @@ all-places-spec =
     loop-holds
     hops-requires
     add-sum
-    add-c
+    add-x
     loop-less
     loop-again
     returns)

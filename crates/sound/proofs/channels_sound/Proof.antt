@@ -12,10 +12,10 @@ use Rattle.sound.proofs.channels_sound.Statement.{statement}
 use Rattle.sound.proofs.channels_sound.Tie as tie
 
 abbrev Inv-loop : tie.InvT-loop
-Inv-loop store channels c₀ c = Passing (channelSound store) (channelsOf store) c
+Inv-loop store channels x₀ x = Passing (channelSound store) (channelsOf store) x
 
 abbrev μ-loop : tie.MeasureT-loop
-μ-loop store channels c₀ c = channels - c
+μ-loop store channels x₀ x = channels - x
 
 channels-requires : tie.Need-channels-requires Inv-loop μ-loop
 channels-requires c κs = search needs
@@ -32,8 +32,8 @@ channel-is-sound-requires c κs =
 returns : tie.Need-returns Inv-loop μ-loop
 returns c = sym (every-false _ _ _ (omega arith) (refuted (c .before .channel-is-sound .ensures) (c .if1 .taken)))
 
-add-c : tie.Need-add-c Inv-loop μ-loop
-add-c c = omega arith
+add-x : tie.Need-add-x Inv-loop μ-loop
+add-x c = omega arith
 
 loop-less : tie.Need-loop-less Inv-loop μ-loop
 loop-less c = omega arith
@@ -56,7 +56,7 @@ channels-sound-spec =
     loop-holds
     channel-is-sound-requires
     returns
-    add-c
+    add-x
     loop-less
     loop-again
     returns-2)

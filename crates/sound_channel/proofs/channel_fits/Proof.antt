@@ -31,7 +31,7 @@ returns c =
     let s = c .before .before .before .before .before .before .before .before in
     let n = c .before .before in
     let b = n .before in
-    numbers-fail (s .args .store .now) (s .args .c) _ _ _ _ (b .before .before .before .c .ensures)
+    numbers-fail (s .args .store .now) (s .args .x) _ _ _ _ (b .before .before .before .c .ensures)
     (b .before .before .p .ensures) (b .before .d .ensures) (b .b .ensures) (sym (n .new .ensures) ∙ c .enum-told2 .given .1)
 
 hops-requires : tie.Need-hops-requires
@@ -54,9 +54,9 @@ returns-2 c =
     let t = h .before in
     let n = t .before .before in
     let b = n .before in
-    let one = numbers-pass (s .args .store .now) (s .args .c) _ _ _ _ (b .before .before .before .c .ensures)
+    let one = numbers-pass (s .args .store .now) (s .args .x) _ _ _ _ (b .before .before .before .c .ensures)
     (b .before .before .p .ensures) (b .before .d .ensures) (b .b .ensures) (sym (n .new .ensures) ∙ t .enum-told .given .1) in
-    hops-fail (s .args .store .now) (s .args .c) _ (h .hops .ensures) one (sym (m .new2 .ensures) ∙ c .enum-told4 .given .1)
+    hops-fail (s .args .store .now) (s .args .x) _ (h .hops .ensures) one (sym (m .new2 .ensures) ∙ c .enum-told4 .given .1)
 
 route-passes-requires : tie.Need-route-passes-requires
 route-passes-requires c κs =
@@ -74,9 +74,9 @@ returns-3 c =
     let t = h .before in
     let n = t .before .before in
     let b = n .before in
-    let one = numbers-pass (s .args .store .now) (s .args .c) _ _ _ _ (b .before .before .before .c .ensures)
+    let one = numbers-pass (s .args .store .now) (s .args .x) _ _ _ _ (b .before .before .before .c .ensures)
     (b .before .before .p .ensures) (b .before .d .ensures) (b .b .ensures) (sym (n .new .ensures) ∙ t .enum-told .given .1) in
-    hops-pass (s .args .store .now) (s .args .c) _ (h .hops .ensures) one (sym (m .new2 .ensures) ∙ k .enum-told3 .given .1) _
+    hops-pass (s .args .store .now) (s .args .x) _ (h .hops .ensures) one (sym (m .new2 .ensures) ∙ k .enum-told3 .given .1) _
     (c .route-passes .ensures)
 
 pub channel-fits-spec : {M : Type 1} → statement M

@@ -14,7 +14,7 @@ returns c = fails (c .before .channel-fits .ensures) _ (c .if1 .taken)
 places-fit-requires : tie.Need-places-fit-requires
 places-fit-requires c κs =
     let s = c .before .before .before in
-    let z = sized (s .args .store .now) (s .args .c) (held (c .before .channel-fits .ensures) (c .if1 .left)) in
+    let z = sized (s .args .store .now) (s .args .x) (held (c .before .channel-fits .ensures) (c .if1 .left)) in
     (s .pre .0, (s .pre .1 .1, z .most))
 
 returns-2 : tie.Need-returns-2
@@ -26,7 +26,7 @@ messages-fit-requires : tie.Need-messages-fit-requires
 messages-fit-requires c κs =
     let s = c .before .before .before .before .before in
     let i = c .before .before in
-    let z = sized (s .args .store .now) (s .args .c) (held (i .before .channel-fits .ensures) (i .if1 .left)) in
+    let z = sized (s .args .store .now) (s .args .x) (held (i .before .channel-fits .ensures) (i .if1 .left)) in
     (s .pre .0, (s .pre .1 .1, (z .packets, (z .least, z .most))))
 
 returns-3 : tie.Need-returns-3

@@ -7,10 +7,10 @@ use Rattle.sound_channel.proofs.places_fit.Statement.{statement}
 use Rattle.sound_channel.proofs.places_fit.Tie as tie
 
 abbrev Inv-loop : tie.InvT-loop
-Inv-loop store c hops p entered₀ j₀ entered j = Placing store c hops p entered j
+Inv-loop store x hops p entered₀ j₀ entered j = Placing store x hops p entered j
 
 abbrev μ-loop : tie.MeasureT-loop
-μ-loop store c hops p entered₀ j₀ entered j = hops - j
+μ-loop store x hops p entered₀ j₀ entered j = hops - j
 
 hops-requires : tie.Need-hops-requires Inv-loop μ-loop
 hops-requires c κs = search needs

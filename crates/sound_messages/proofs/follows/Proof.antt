@@ -14,7 +14,7 @@ abbrev w : tie.After-end-in2 → Store
 w e = start e .args .store .now
 
 abbrev channel : tie.After-end-in2 → ℕ
-channel e = start e .args .c
+channel e = start e .args .x
 
 -- the message at `before`, by its place, and where the one after it ends
 abbrev n : tie.After-end-in2 → ℕ

@@ -9,10 +9,10 @@ use Rattle.sound_messages.proofs.in_order.Statement.{statement}
 use Rattle.sound_messages.proofs.in_order.Tie as tie
 
 abbrev Inv-loop : tie.InvT-loop
-Inv-loop store c last most sent n₀ at₀ left₀ n at left = Ordering store c last most sent n at left
+Inv-loop store x last most sent n₀ at₀ left₀ n at left = Ordering store x last most sent n at left
 
 abbrev μ-loop : tie.MeasureT-loop
-μ-loop store c last most sent n₀ at₀ left₀ n at left = left
+μ-loop store x last most sent n₀ at₀ left₀ n at left = left
 
 hops-requires : tie.Need-hops-requires Inv-loop μ-loop
 hops-requires c κs = search needs
@@ -30,7 +30,7 @@ loop-holds : tie.Need-loop-holds Inv-loop μ-loop
 loop-holds c =
     let s = c .before .before .before .before in
     record {
-      sent-is = sent-delivered (s .args .store .now) (s .args .c) _ _ (c .before .before .hops .ensures)
+      sent-is = sent-delivered (s .args .store .now) (s .args .x) _ _ (c .before .before .hops .ensures)
           (c .before .sent .ensures);
       place = c .ring-place .ensures;
       same = refl;

@@ -15,7 +15,7 @@ returns : tie.Need-returns
 returns c =
     let s = c .before .before .before .before in
     let n = c .before in
-    too-many (s .args .store .now) (s .args .c) _ (n .before .messages .ensures) (refuted (n .is-number .ensures) (c .if1 .taken))
+    too-many (s .args .store .now) (s .args .x) _ (n .before .messages .ensures) (refuted (n .is-number .ensures) (c .if1 .taken))
 
 time-requires : tie.Need-time-requires
 time-requires c κs = search needs
@@ -29,7 +29,7 @@ returns-2 c =
     let t = c .before .before in
     let i = t .before in
     let n = i .before in
-    too-late (s .args .store .now) (s .args .c) _ (n .before .messages .ensures) _ (t .time .ensures)
+    too-late (s .args .store .now) (s .args .x) _ (n .before .messages .ensures) _ (t .time .ensures)
     (held (n .is-number .ensures) (i .if1 .left)) (refuted (c .before .is-number2 .ensures) (c .if2 .taken))
 
 end-requires : tie.Need-end-requires
@@ -43,8 +43,8 @@ mul-if3 c =
     let s = c .before .before .before .before .before .before .before .before .before in
     let i = c .before .before .before .before .before in
     let n = i .before in
-    total-fits (s .args .store .now) (s .args .c) _ (n .before .messages .ensures) _ (c .c .ensures) (s .pre .1 .1 .0)
-    (few (s .args .store .now) (s .args .c) _ (n .before .messages .ensures) (held (n .is-number .ensures) (i .if1 .left)))
+    total-fits (s .args .store .now) (s .args .x) _ (n .before .messages .ensures) _ (c .c .ensures) (s .pre .1 .1 .0)
+    (few (s .args .store .now) (s .args .x) _ (n .before .messages .ensures) (held (n .is-number .ensures) (i .if1 .left)))
 
 returns-3 : tie.Need-returns-3
 returns-3 c =
@@ -54,7 +54,7 @@ returns-3 c =
     let t = j .before .before in
     let i = t .before in
     let n = i .before in
-    too-much (s .args .store .now) (s .args .c) _ (n .before .messages .ensures) _ (t .time .ensures)
+    too-much (s .args .store .now) (s .args .x) _ (n .before .messages .ensures) _ (t .time .ensures)
     (held (n .is-number .ensures) (i .if1 .left)) _ _ (k .before .end .ensures) (k .c .ensures)
     (held (j .before .is-number2 .ensures) (j .if2 .left)) (c .if3 .taken)
 
@@ -67,7 +67,7 @@ in-order-requires c κs =
       (
         s .pre .1 .0,
         (
-          few (s .args .store .now) (s .args .c) _ (n .before .messages .ensures)
+          few (s .args .store .now) (s .args .x) _ (n .before .messages .ensures)
               (held (n .is-number .ensures) (i .if1 .left)),
           (s .pre .1 .1 .1 .0, s .pre .1 .1 .1 .1),
         ),
@@ -83,7 +83,7 @@ returns-4 c =
     let t = j .before .before in
     let i = t .before in
     let n = i .before in
-    ordered (s .args .store .now) (s .args .c) _ (n .before .messages .ensures) _ (t .time .ensures)
+    ordered (s .args .store .now) (s .args .x) _ (n .before .messages .ensures) _ (t .time .ensures)
     (held (n .is-number .ensures) (i .if1 .left)) _ _ (k .before .end .ensures) (k .c .ensures)
     (held (j .before .is-number2 .ensures) (j .if2 .left)) (q .if3 .left) _ (c .in-order .ensures)
 

@@ -18,15 +18,15 @@ module _ (w : Store) (f : Fit w) where
     pub rows-most : (v : ℕ) → v ≡ rowsOf w l → v ≤ mostRows
     rows-most v g = rw g (fit-rows w f l a-link)
 
-  module _ (c n : ℕ) (e : n ≡ channelsOf w) (h : c < n) where
-    pub a-channel : IsChannel w c
+  module _ (x n : ℕ) (e : n ≡ channelsOf w) (h : x < n) where
+    pub a-channel : IsChannel w x
     a-channel = rw e at h
 
-    pub channel-most : c < mostChannels
+    pub channel-most : x < mostChannels
     channel-most = omega (arith, fit-counts w f .channels-most)
 
-    pub hops-most : (m : ℕ) → m ≡ hopsOf w c → m ≤ mostHops
-    hops-most m g = rw g (fit-ranged w f c a-channel .hops-most)
+    pub hops-most : (m : ℕ) → m ≡ hopsOf w x → m ≤ mostHops
+    hops-most m g = rw g (fit-ranged w f x a-channel .hops-most)
 
-    pub place-most : (j m : ℕ) → m ≡ hopsOf w c → j < m → j < mostHops
+    pub place-most : (j m : ℕ) → m ≡ hopsOf w x → j < m → j < mostHops
     place-most j m g k = omega (arith, hops-most m g)

@@ -21,12 +21,12 @@ use Rattle.store.proofs.Laws.Amounts.{first-most, later-most}
 use Rattle.store.proofs.Laws.Sound.{fit-ranged, fit-flows, row-is}
 use Rattle.sound_rows.specs.Rows.{stands, follows}
 
-reserved-most : (w : Store) (c j : ℕ) → Ranged w c → j < hopsOf w c → reservedOf w c j ≤ mostReserved
+reserved-most : (w : Store) (x j : ℕ) → Ranged w x → j < hopsOf w x → reservedOf w x j ≤ mostReserved
 unfolding reservedOf
-reserved-most w c zero g h = first-most _ (g .c-most) _ (g .b-most)
-reserved-most w c (suc j) g h =
-    let hj : j < hopsOf w c = omega arith in
-    later-most _ (g .c-most) (pOf w c) _ _ _ (g .horizon-most j hj) (le-trans (g .delay-most j hj) (g .p-most))
+reserved-most w x zero g h = first-most _ (g .c-most) _ (g .b-most)
+reserved-most w x (suc j) g h =
+    let hj : j < hopsOf w x = omega arith in
+    later-most _ (g .c-most) (pOf w x) _ _ _ (g .horizon-most j hj) (le-trans (g .delay-most j hj) (g .p-most))
     (le-trans (g .delay-most (suc j) h) (g .p-most))
 
 -- the delay and the channel of the row above row k, 0 above the first
@@ -49,53 +49,53 @@ no-row : (w : Store) (l k : ℕ) → k < rowsOf w l → rowSound w l k ≡ false
 no-row w l k h e = rw (every-false (rowSound w l) (rowsOf w l) k h e)
 
 -- Row k as it was read.
-pub record Row (w : Store) (l k c j : ℕ) : Type 0 where
+pub record Row (w : Store) (l k x j : ℕ) : Type 0 where
   pub fit : Fit w
   pub below : k < rowsOf w l
-  pub its-channel : c ≡ rowChannelOf w l k
+  pub its-channel : x ≡ rowChannelOf w l k
   pub its-place : j ≡ rowPlaceOf w l k
 
-module _ {w : Store} {l k c j : ℕ} (r : Row w l k c j) where
-  pub row-absent : stands w l c j ≡ false → false ≡ rowsSound w l
+module _ {w : Store} {l k x j : ℕ} (r : Row w l k x j) where
+  pub row-absent : stands w l x j ≡ false → false ≡ rowsSound w l
   row-absent e =
       let s : rowStands w l k ≡ false = rw (r .its-channel, r .its-place) at e in
       no-row w l k (r .below) (rw s)
 
-  module _ (e : stands w l c j ≡ true) where
+  module _ (e : stands w l x j ≡ true) where
     s : rowStands w l k ≡ true
     s = rw (r .its-channel, r .its-place) at e
 
-    row-channel : IsChannel w c
+    row-channel : IsChannel w x
     row-channel = rw (r .its-channel) (row-is w l k s .channel)
 
-    pub row-place : j < hopsOf w c
+    pub row-place : j < hopsOf w x
     row-place = rw (r .its-channel, r .its-place) (row-is w l k s .place)
 
-    pub row-ranged : Ranged w c
-    row-ranged = fit-ranged w (r .fit) c row-channel
+    pub row-ranged : Ranged w x
+    row-ranged = fit-ranged w (r .fit) x row-channel
 
-    pub row-at : (c < mostChannels) × (j < mostHops)
+    pub row-at : (x < mostChannels) × (j < mostHops)
     row-at = (row-ranged .channel, omega (arith, row-place, row-ranged .hops-most))
 
-    pub row-flows : sentOf w c j ≤ enteredOf w c j
-    row-flows = fit-flows w (r .fit) c row-channel j row-place
+    pub row-flows : sentOf w x j ≤ enteredOf w x j
+    row-flows = fit-flows w (r .fit) x row-channel j row-place
 
-    pub row-most : {reserved : ℕ} → reserved ≡ reservedOf w c j → reserved ≤ mostReserved
-    row-most er = rw er (reserved-most w c j row-ranged row-place)
+    pub row-most : {reserved : ℕ} → reserved ≡ reservedOf w x j → reserved ≤ mostReserved
+    row-most er = rw er (reserved-most w x j row-ranged row-place)
 
-    module _ {above higher d : ℕ} (ea : above ≡ delayAbove w l k) (eh : higher ≡ channelAbove w l k) (ed : d ≡ delayOf w c j) where
-      order : follows above higher d c ≡ rowFollows w l k
+    module _ {above higher d : ℕ} (ea : above ≡ delayAbove w l k) (eh : higher ≡ channelAbove w l k) (ed : d ≡ delayOf w x j) where
+      order : follows above higher d x ≡ rowFollows w l k
       order =
           let p : 1 ≤ rowDelayOf w l k = rw (r .its-channel, r .its-place) at (row-ranged .delay-least j row-place) in
           let d′ : d ≡ rowDelayOf w l k = rw (r .its-channel, r .its-place) at ed in
           rw (ea, eh, d′, r .its-channel) (follows-above w l k p)
 
-      pub row-early : follows above higher d c ≡ false → false ≡ rowsSound w l
+      pub row-early : follows above higher d x ≡ false → false ≡ rowsSound w l
       row-early o =
           let t : rowFollows w l k ≡ false = sym order ∙ o in
           no-row w l k (r .below) (rw (s, t))
 
-      module _ (o : follows above higher d c ≡ true) {held reserved : ℕ} (ek : held ≡ heldOf w c j) (er : reserved ≡ reservedOf w c j) where
+      module _ (o : follows above higher d x ≡ true) {held reserved : ℕ} (ek : held ≡ heldOf w x j) (er : reserved ≡ reservedOf w x j) where
         t : rowFollows w l k ≡ true
         t = sym order ∙ o
 
@@ -127,8 +127,8 @@ module _ (w : Store) (l : ℕ) where
   }
 
   module _ (above higher sum k : ℕ) (p : Walk w l above higher sum k) where
-    pub walk-more : {c j d r : ℕ} → Row w l k c j → d ≡ delayOf w c j → r ≡ reservedOf w c j → rowSound w l k ≡ true → r ≤ mostReserved
-        → Walk w l d c (sum + r) (k + 1)
+    pub walk-more : {x j d r : ℕ} → Row w l k x j → d ≡ delayOf w x j → r ≡ reservedOf w x j → rowSound w l k ≡ true → r ≤ mostReserved
+        → Walk w l d x (sum + r) (k + 1)
     unfolding delayAbove channelAbove
     walk-more {r = r} row ed er e m =
         let ec = row .its-channel in

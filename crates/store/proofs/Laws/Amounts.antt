@@ -11,35 +11,35 @@ use Rattle.store.specs.Amounts.{firstReserved, laterReserved, mostReserv
 use Rattle.store.specs.Route.{joins}
 
 -- what is reserved is bounded
-module _ (c : ℕ) (m : c ≤ mostC) where
-  pub first-most : (b : ℕ) → b ≤ mostB → firstReserved c b ≤ mostReserved
+module _ (x : ℕ) (m : x ≤ mostC) where
+  pub first-most : (b : ℕ) → b ≤ mostB → firstReserved x b ≤ mostReserved
   first-most b n = omega (arith, mul-le-mul n m)
 
-  pub later-most : (p h d′ d : ℕ) → h ≤ mostHorizon → d′ ≤ mostP → d ≤ mostP → laterReserved c p h d′ d ≤ mostReserved
-  later-most p h d′ d x y z =
+  pub later-most : (p h d′ d : ℕ) → h ≤ mostHorizon → d′ ≤ mostP → d ≤ mostP → laterReserved x p h d′ d ≤ mostReserved
+  later-most p h d′ d u y z =
       let t : 1 + (h + d′ + d - 2) / p ≤ 1 + (mostHorizon + mostP + mostP) = omega (arith, div-le-self (h + d′ + d - 2) p) in
       mul-le-mul m t
 
-module _ (w : Store) (c : ℕ) where
-  pub reserved-first : (j : ℕ) → j ≡ 0 → reservedOf w c j ≡ firstReserved (cOf w c) (bOf w c)
+module _ (w : Store) (x : ℕ) where
+  pub reserved-first : (j : ℕ) → j ≡ 0 → reservedOf w x j ≡ firstReserved (cOf w x) (bOf w x)
   unfolding reservedOf
   reserved-first zero e = refl
   reserved-first (suc j) e = absurd (omega arith)
 
   pub reserved-later : (j : ℕ) → 0 < j
-      → reservedOf w c j ≡ laterReserved (cOf w c) (pOf w c) (horizonOf w (routeOf w c (j - 1))) (delayOf w c (j - 1)) (delayOf w c j)
+      → reservedOf w x j ≡ laterReserved (cOf w x) (pOf w x) (horizonOf w (routeOf w x (j - 1))) (delayOf w x (j - 1)) (delayOf w x j)
   unfolding reservedOf
   reserved-later zero h = absurd (omega arith)
   reserved-later (suc j) h =
       let e : suc j - 1 ≡ j = omega arith in
       simp e
 
-  pub entered-first : (j : ℕ) → j ≡ 0 → enteredOf w c j ≡ acceptedOf w c
+  pub entered-first : (j : ℕ) → j ≡ 0 → enteredOf w x j ≡ acceptedOf w x
   unfolding enteredOf
   entered-first zero e = refl
   entered-first (suc j) e = absurd (omega arith)
 
-  pub entered-later : (j : ℕ) → 0 < j → enteredOf w c j ≡ sentOf w c (j - 1)
+  pub entered-later : (j : ℕ) → 0 < j → enteredOf w x j ≡ sentOf w x (j - 1)
   unfolding enteredOf
   entered-later zero h = absurd (omega arith)
   entered-later (suc j) h =

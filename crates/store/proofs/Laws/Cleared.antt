@@ -8,48 +8,48 @@ use Rattle.store.specs.Layout.{Store, channelAt, recordLength, numberAt,
 use Rattle.folds.proofs.Folds.{below}
 use Rattle.store.proofs.Laws.Layout.{written, beside, as-long}
 
-module _ (w : Store) (c : ℕ) where
-  pub cleared-length : (n : ℕ) → length (cleared w c n) ≡ length w
+module _ (w : Store) (x : ℕ) where
+  pub cleared-length : (n : ℕ) → length (cleared w x n) ≡ length w
   unfolding cleared
   cleared-length zero = refl
-  cleared-length (suc i) = rw (as-long (cleared w c i) (channelAt c + i) 0) (cleared-length i)
+  cleared-length (suc i) = rw (as-long (cleared w x i) (channelAt x + i) 0) (cleared-length i)
 
-  pub cleared-beside : (n at : ℕ) → (channelAt c ≤ at → at < channelAt c + n → ⊥) → numberAt (cleared w c n) at ≡ numberAt w at
+  pub cleared-beside : (n at : ℕ) → (channelAt x ≤ at → at < channelAt x + n → ⊥) → numberAt (cleared w x n) at ≡ numberAt w at
   unfolding cleared
   cleared-beside zero at h = refl
   cleared-beside (suc i) at h =
-      rw (beside (cleared w c i) (channelAt c + i) 0 at (λ e. h (omega arith) (omega arith)))
+      rw (beside (cleared w x i) (channelAt x + i) 0 at (λ e. h (omega arith) (omega arith)))
       (cleared-beside i at (λ l m. h l (omega arith)))
 
-  pub cleared-zero : (n i : ℕ) → i < n → channelAt c + n ≤ length w → numberAt (cleared w c n) (channelAt c + i) ≡ 0
+  pub cleared-zero : (n i : ℕ) → i < n → channelAt x + n ≤ length w → numberAt (cleared w x n) (channelAt x + i) ≡ 0
   unfolding cleared
   cleared-zero zero i h l = absurd (omega arith)
   cleared-zero (suc n) i h l =
       below i n h
       (λ m.
-      rw (beside (cleared w c n) (channelAt c + n) 0 (channelAt c + i) (λ e. omega arith))
+      rw (beside (cleared w x n) (channelAt x + n) 0 (channelAt x + i) (λ e. omega arith))
       (cleared-zero n i m (omega arith)))
-      (λ s. rw s (written (cleared w c n) (channelAt c + n) 0 (omega (arith, cleared-length n))))
+      (λ s. rw s (written (cleared w x n) (channelAt x + n) 0 (omega (arith, cleared-length n))))
 
 -- a loop that clears, from 0 up
-pub record Clearing (w : Store) (c : ℕ) (v : Store) (i : ℕ) : Type 0 where
+pub record Clearing (w : Store) (x : ℕ) (v : Store) (i : ℕ) : Type 0 where
   pub place : i ≤ recordLength
-  pub same : v ≡ cleared w c i
+  pub same : v ≡ cleared w x i
 
-module _ (w : Store) (c : ℕ) where
-  pub clearing-none : Clearing w c w 0
+module _ (w : Store) (x : ℕ) where
+  pub clearing-none : Clearing w x w 0
   unfolding cleared
   clearing-none = record { place = omega arith; same = refl }
 
-  pub clearing-more : (v : Store) (i : ℕ) → Clearing w c v i → i < recordLength
-      → Clearing w c (withNumber v (channelAt c + i) 0) (i + 1)
+  pub clearing-more : (v : Store) (i : ℕ) → Clearing w x v i → i < recordLength
+      → Clearing w x (withNumber v (channelAt x + i) 0) (i + 1)
   unfolding cleared
   clearing-more v i k h = record { place = omega arith; same = rw (add-one i, cleared, k .same) }
 
-  pub clearing-done : (v : Store) (i : ℕ) → Clearing w c v i → recordLength ≤ i → v ≡ cleared w c recordLength
+  pub clearing-done : (v : Store) (i : ℕ) → Clearing w x v i → recordLength ≤ i → v ≡ cleared w x recordLength
   clearing-done v i k h =
       let e : i ≡ recordLength = omega (arith, k .place) in
       rw e at (k .same)
 
-  pub clearing-length : (v : Store) (i : ℕ) → Clearing w c v i → length v ≡ length w
-  clearing-length v i k = rw (k .same) (cleared-length w c i)
+  pub clearing-length : (v : Store) (i : ℕ) → Clearing w x v i → length v ≡ length w
+  clearing-length v i k = rw (k .same) (cleared-length w x i)

@@ -32,11 +32,11 @@ module _ (n at : ℕ) (e : at ≡ n % ring) where
   pub ring-next : (at + 1) % ring ≡ (n + 1) % ring
   ring-next = omega arith
 
-  pub ring-time : (w : Store) (c : ℕ) → timeOf w c at ≡ timeOf w c n
-  ring-time w c = rw ring-same
+  pub ring-time : (w : Store) (x : ℕ) → timeOf w x at ≡ timeOf w x n
+  ring-time w x = rw ring-same
 
-  pub ring-end : (w : Store) (c : ℕ) → endOf w c at ≡ endOf w c n
-  ring-end w c = rw ring-same
+  pub ring-end : (w : Store) (x : ℕ) → endOf w x at ≡ endOf w x n
+  ring-end w x = rw ring-same
 
 -- the message before it stands at the place before
 pub ring-back : (n at : ℕ) → at ≡ n % ring → (n ≡ 0 → ⊥) → placeBefore at ≡ (n - 1) % ring

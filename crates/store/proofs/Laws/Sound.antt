@@ -97,60 +97,60 @@ module _ (w : Store) (route : ℕ → ℕ) (n : ℕ) where
       (every-true (joins w route) n (joins-at g)))
 
 -- "its channels pass 1 to 5", "delays 1 to p", and the counts of a channel
-pub record ChannelIs (w : Store) (c : ℕ) : Type 0 where
-  pub good : GoodChannel (cOf w c) (pOf w c) (dOf w c) (bOf w c)
-  pub hops-least : 1 ≤ hopsOf w c
-  pub hops-most : hopsOf w c ≤ mostHops
-  pub route : Good345 w (routeOf w c) (hopsOf w c)
-  pub delay-least : (j : ℕ) → j < hopsOf w c → 1 ≤ delayOf w c j
-  pub delay-most : (j : ℕ) → j < hopsOf w c → delayOf w c j ≤ pOf w c
-  pub flows : (j : ℕ) → j < hopsOf w c → sentOf w c j ≤ enteredOf w c j
-  pub messages-most : messagesOf w c ≤ mostNumber
-  pub time-most : timeOf w c (messagesOf w c) ≤ mostNumber
-  pub accepted-most : acceptedOf w c ≤ cOf w c * messagesOf w c
-  pub order : inOrder w c (messagesOf w c) (ring - 1) ≡ true
+pub record ChannelIs (w : Store) (x : ℕ) : Type 0 where
+  pub good : GoodChannel (cOf w x) (pOf w x) (dOf w x) (bOf w x)
+  pub hops-least : 1 ≤ hopsOf w x
+  pub hops-most : hopsOf w x ≤ mostHops
+  pub route : Good345 w (routeOf w x) (hopsOf w x)
+  pub delay-least : (j : ℕ) → j < hopsOf w x → 1 ≤ delayOf w x j
+  pub delay-most : (j : ℕ) → j < hopsOf w x → delayOf w x j ≤ pOf w x
+  pub flows : (j : ℕ) → j < hopsOf w x → sentOf w x j ≤ enteredOf w x j
+  pub messages-most : messagesOf w x ≤ mostNumber
+  pub time-most : timeOf w x (messagesOf w x) ≤ mostNumber
+  pub accepted-most : acceptedOf w x ≤ cOf w x * messagesOf w x
+  pub order : inOrder w x (messagesOf w x) (ring - 1) ≡ true
 
-module _ (w : Store) (c : ℕ) where
-  pub channel-is : channelSound w c ≡ true → ChannelIs w c
+module _ (w : Store) (x : ℕ) where
+  pub channel-is : channelSound w x ≡ true → ChannelIs w x
   channel-is e =
-      let fit = and-eq-true-iff (channelFits w c) _ .0 e in
-      let one = and-eq-true-iff (channelPasses (cOf w c) (pOf w c) (dOf w c) (bOf w c)) _ .0 (fit .0) in
-      let two = and-eq-true-iff (inRangeHops (hopsOf w c)) _ .0 (one .1) in
-      let hops = within-true 1 mostHops (hopsOf w c) (two .0) in
-      let rest = and-eq-true-iff (every (placeFits w c) (hopsOf w c)) _ .0 (fit .1) in
-      let sizes = and-eq-true-iff (isNumber (messagesOf w c) && isNumber (timeOf w c (messagesOf w c))) _ .0 (rest .1) in
-      let numbers = and-eq-true-iff (isNumber (messagesOf w c)) _ .0 (sizes .0) in
-      let most = and-eq-true-iff (leb (acceptedOf w c) (cOf w c * messagesOf w c)) _ .0 (sizes .1) in
+      let fit = and-eq-true-iff (channelFits w x) _ .0 e in
+      let one = and-eq-true-iff (channelPasses (cOf w x) (pOf w x) (dOf w x) (bOf w x)) _ .0 (fit .0) in
+      let two = and-eq-true-iff (inRangeHops (hopsOf w x)) _ .0 (one .1) in
+      let hops = within-true 1 mostHops (hopsOf w x) (two .0) in
+      let rest = and-eq-true-iff (every (placeFits w x) (hopsOf w x)) _ .0 (fit .1) in
+      let sizes = and-eq-true-iff (isNumber (messagesOf w x) && isNumber (timeOf w x (messagesOf w x))) _ .0 (rest .1) in
+      let numbers = and-eq-true-iff (isNumber (messagesOf w x)) _ .0 (sizes .0) in
+      let most = and-eq-true-iff (leb (acceptedOf w x) (cOf w x * messagesOf w x)) _ .0 (sizes .1) in
       record {
         good = channel-bounds _ _ _ _ (one .0);
         hops-least = hops .0;
         hops-most = hops .1;
-        route = route-is w (routeOf w c) (hopsOf w c) (two .1);
-        delay-least = λ j h. place j (every-at (placeFits w c) (hopsOf w c) (rest .0) j h) .0 .0;
-        delay-most = λ j h. place j (every-at (placeFits w c) (hopsOf w c) (rest .0) j h) .0 .1;
-        flows = λ j h. place j (every-at (placeFits w c) (hopsOf w c) (rest .0) j h) .1;
-        messages-most = leb-true (messagesOf w c) mostNumber (numbers .0);
-        time-most = leb-true (timeOf w c (messagesOf w c)) mostNumber (numbers .1);
-        accepted-most = leb-true (acceptedOf w c) (cOf w c * messagesOf w c) (most .0);
+        route = route-is w (routeOf w x) (hopsOf w x) (two .1);
+        delay-least = λ j h. place j (every-at (placeFits w x) (hopsOf w x) (rest .0) j h) .0 .0;
+        delay-most = λ j h. place j (every-at (placeFits w x) (hopsOf w x) (rest .0) j h) .0 .1;
+        flows = λ j h. place j (every-at (placeFits w x) (hopsOf w x) (rest .0) j h) .1;
+        messages-most = leb-true (messagesOf w x) mostNumber (numbers .0);
+        time-most = leb-true (timeOf w x (messagesOf w x)) mostNumber (numbers .1);
+        accepted-most = leb-true (acceptedOf w x) (cOf w x * messagesOf w x) (most .0);
         order = most .1;
       }
     where
-      place : (j : ℕ) → placeFits w c j ≡ true
-          → ((1 ≤ delayOf w c j) × (delayOf w c j ≤ pOf w c)) × (sentOf w c j ≤ enteredOf w c j)
+      place : (j : ℕ) → placeFits w x j ≡ true
+          → ((1 ≤ delayOf w x j) × (delayOf w x j ≤ pOf w x)) × (sentOf w x j ≤ enteredOf w x j)
       place j f =
-          let b = and-eq-true-iff (within 1 (pOf w c) (delayOf w c j)) _ .0 f in
-          (within-true 1 (pOf w c) (delayOf w c j) (b .0), leb-true (sentOf w c j) (enteredOf w c j) (b .1))
+          let b = and-eq-true-iff (within 1 (pOf w x) (delayOf w x j)) _ .0 f in
+          (within-true 1 (pOf w x) (delayOf w x j) (b .0), leb-true (sentOf w x j) (enteredOf w x j) (b .1))
 
-  pub is-channel : ChannelIs w c → channelSound w c ≡ true
+  pub is-channel : ChannelIs w x → channelSound w x ≡ true
   is-channel k =
       both _ _
       (both _ _ (bounds-channel _ _ _ _ (k .good))
-      (both _ _ (true-within 1 mostHops (hopsOf w c) (k .hops-least) (k .hops-most)) (is-route w (routeOf w c) (hopsOf w c) (k .route))))
+      (both _ _ (true-within 1 mostHops (hopsOf w x) (k .hops-least) (k .hops-most)) (is-route w (routeOf w x) (hopsOf w x) (k .route))))
       (both _ _
-      (every-true (placeFits w c) (hopsOf w c) (λ j h.
-      both _ _ (true-within 1 (pOf w c) (delayOf w c j) (k .delay-least j h) (k .delay-most j h)) (le-leb (sentOf w c j) (enteredOf w c j) (k .flows j h))))
-      (both _ _ (both _ _ (le-leb (messagesOf w c) mostNumber (k .messages-most)) (le-leb (timeOf w c (messagesOf w c)) mostNumber (k .time-most)))
-      (both _ _ (le-leb (acceptedOf w c) (cOf w c * messagesOf w c) (k .accepted-most)) (k .order))))
+      (every-true (placeFits w x) (hopsOf w x) (λ j h.
+      both _ _ (true-within 1 (pOf w x) (delayOf w x j) (k .delay-least j h) (k .delay-most j h)) (le-leb (sentOf w x j) (enteredOf w x j) (k .flows j h))))
+      (both _ _ (both _ _ (le-leb (messagesOf w x) mostNumber (k .messages-most)) (le-leb (timeOf w x (messagesOf w x)) mostNumber (k .time-most)))
+      (both _ _ (le-leb (acceptedOf w x) (cOf w x * messagesOf w x) (k .accepted-most)) (k .order))))
 
 -- What the first parts give to those that come after them.
 module _ (w : Store) (f : Fit w) where
@@ -160,12 +160,12 @@ module _ (w : Store) (f : Fit w) where
   pub fit-link : (l : ℕ) → l < linksOf w → LinkIs w l
   fit-link l h = link-is w l (every-at (linkFits w) (linksOf w) (f .links) l h)
 
-  pub fit-channel : (c : ℕ) → IsChannel w c → ChannelIs w c
-  fit-channel c h = channel-is w c (every-at (channelSound w) (channelsOf w) (f .channels) c h)
+  pub fit-channel : (x : ℕ) → IsChannel w x → ChannelIs w x
+  fit-channel x h = channel-is w x (every-at (channelSound w) (channelsOf w) (f .channels) x h)
 
-  pub fit-ranged : (c : ℕ) → IsChannel w c → Ranged w c
-  fit-ranged c h =
-      let k = fit-channel c h in
+  pub fit-ranged : (x : ℕ) → IsChannel w x → Ranged w x
+  fit-ranged x h =
+      let k = fit-channel x h in
       let n = fit-counts in
       record {
         long = f .long;
@@ -178,14 +178,14 @@ module _ (w : Store) (f : Fit w) where
         delay-least = k .delay-least;
         delay-most = k .delay-most;
         route-most = λ j l. omega (arith, k .route .known j l);
-        horizon-most = λ j l. fit-link (routeOf w c j) (k .route .known j l) .good .horizon-most;
+        horizon-most = λ j l. fit-link (routeOf w x j) (k .route .known j l) .good .horizon-most;
       }
 
   pub fit-rows : (l : ℕ) → l < linksOf w → rowsOf w l ≤ mostRows
   fit-rows l h = fit-link l h .rows-most
 
-  pub fit-flows : (c : ℕ) → IsChannel w c → (j : ℕ) → j < hopsOf w c → sentOf w c j ≤ enteredOf w c j
-  fit-flows c h = fit-channel c h .flows
+  pub fit-flows : (x : ℕ) → IsChannel w x → (j : ℕ) → j < hopsOf w x → sentOf w x j ≤ enteredOf w x j
+  fit-flows x h = fit-channel x h .flows
 
 -- "each link's rows are .. the channels routed over it": row k is a place of a route, and this link is there
 pub record RowIs (w : Store) (l k : ℕ) : Type 0 where
@@ -194,15 +194,15 @@ pub record RowIs (w : Store) (l k : ℕ) : Type 0 where
   pub here : routeOf w (rowChannelOf w l k) (rowPlaceOf w l k) ≡ l
 
 -- "sorted by delay there and then by channel number"
-abbrev pub Before : (d c d′ c′ : ℕ) → Type 0
-Before d c d′ c′ = (d < d′) ⊎ ((d ≡ d′) × (c < c′))
+abbrev pub Before : (d x d′ x′ : ℕ) → Type 0
+Before d x d′ x′ = (d < d′) ⊎ ((d ≡ d′) × (x < x′))
 
 module _ (w : Store) (l : ℕ) where
   pub row-is : (k : ℕ) → rowStands w l k ≡ true → RowIs w l k
   row-is k e =
-      let c = and-eq-true-iff (ltb (rowChannelOf w l k) (channelsOf w)) _ .0 e in
-      let j = and-eq-true-iff (ltb (rowPlaceOf w l k) (hopsOf w (rowChannelOf w l k))) _ .0 (c .1) in
-      record { channel = ltb-true _ _ (c .0); place = ltb-true _ _ (j .0); here = eqb-true _ _ (j .1) }
+      let x = and-eq-true-iff (ltb (rowChannelOf w l k) (channelsOf w)) _ .0 e in
+      let j = and-eq-true-iff (ltb (rowPlaceOf w l k) (hopsOf w (rowChannelOf w l k))) _ .0 (x .1) in
+      record { channel = ltb-true _ _ (x .0); place = ltb-true _ _ (j .0); here = eqb-true _ _ (j .1) }
 
   pub is-row : (k : ℕ) → RowIs w l k → rowStands w l k ≡ true
   is-row k r = both _ _ (lt-ltb _ _ (r .channel)) (both _ _ (lt-ltb _ _ (r .place)) (eq-eqb _ _ (r .here)))
@@ -266,23 +266,23 @@ module _ (w : Store) (l : ℕ) where
       (every-true (rowSound w l) (rowsOf w l) (λ k h. both _ _ (is-row w l k (r .rows k h)) (both _ _ (follows-at r k h) (le-leb _ _ (r .holds k h)))))
       (le-leb _ _ (r .fits))
 
--- link l has a row for channel c at place j
-pub record RowFor (w : Store) (c j l : ℕ) : Type 0 where
+-- link l has a row for channel x at place j
+pub record RowFor (w : Store) (x j l : ℕ) : Type 0 where
   pub at : ℕ
   pub inside : at < rowsOf w l
-  pub channel : rowChannelOf w l at ≡ c
+  pub channel : rowChannelOf w l at ≡ x
   pub place : rowPlaceOf w l at ≡ j
 
-module _ (w : Store) (c j : ℕ) where
-  pub listed-row : listed w c j ≡ true → RowFor w c j (routeOf w c j)
+module _ (w : Store) (x j : ℕ) where
+  pub listed-row : listed w x j ≡ true → RowFor w x j (routeOf w x j)
   listed-row e =
-      let s = some-at (rowIs w c j (routeOf w c j)) (rowsOf w (routeOf w c j)) e in
-      let b = and-eq-true-iff (eqb (rowChannelOf w (routeOf w c j) (s .at)) c) _ .0 (s .holds) in
+      let s = some-at (rowIs w x j (routeOf w x j)) (rowsOf w (routeOf w x j)) e in
+      let b = and-eq-true-iff (eqb (rowChannelOf w (routeOf w x j) (s .at)) x) _ .0 (s .holds) in
       record { at = s .at; inside = s .inside; channel = eqb-true _ _ (b .0); place = eqb-true _ _ (b .1) }
 
-  pub row-listed : RowFor w c j (routeOf w c j) → listed w c j ≡ true
+  pub row-listed : RowFor w x j (routeOf w x j) → listed w x j ≡ true
   row-listed r =
-      some-true (rowIs w c j (routeOf w c j)) (rowsOf w (routeOf w c j)) (r .at) (r .inside)
+      some-true (rowIs w x j (routeOf w x j)) (rowsOf w (routeOf w x j)) (r .at) (r .inside)
       (both _ _ (eq-eqb _ _ (r .channel)) (eq-eqb _ _ (r .place)))
 
 -- A sound store, sentence by sentence.
@@ -290,9 +290,9 @@ pub record Sound (w : Store) : Type 0 where
   pub long : Long w
   pub counts : Counts w
   pub link : (l : ℕ) → l < linksOf w → LinkIs w l
-  pub channel : (c : ℕ) → IsChannel w c → ChannelIs w c
+  pub channel : (x : ℕ) → IsChannel w x → ChannelIs w x
   pub rows : (l : ℕ) → l < linksOf w → RowsAre w l
-  pub row : (c j : ℕ) → IsChannel w c → j < hopsOf w c → RowFor w c j (routeOf w c j)
+  pub row : (x j : ℕ) → IsChannel w x → j < hopsOf w x → RowFor w x j (routeOf w x j)
 
 module _ (w : Store) where
   pub sound-is : soundOf w ≡ true → Sound w
@@ -300,13 +300,13 @@ module _ (w : Store) where
   sound-is e =
       let a = and-eq-true-iff (longEnough w) _ .0 e in
       let b = and-eq-true-iff (countsFit w) _ .0 (a .1) in
-      let c = and-eq-true-iff (every (linkFits w) (linksOf w)) _ .0 (b .1) in
-      let d = and-eq-true-iff (every (channelSound w) (channelsOf w)) _ .0 (c .1) in
+      let x = and-eq-true-iff (every (linkFits w) (linksOf w)) _ .0 (b .1) in
+      let d = and-eq-true-iff (every (channelSound w) (channelsOf w)) _ .0 (x .1) in
       let f = and-eq-true-iff (every (rowsSound w) (linksOf w)) _ .0 (d .1) in
       record {
         long = leb-true storeLength (length w) (a .0);
         counts = counts-are w (b .0);
-        link = λ l h. link-is w l (every-at (linkFits w) (linksOf w) (c .0) l h);
+        link = λ l h. link-is w l (every-at (linkFits w) (linksOf w) (x .0) l h);
         channel = λ i h. channel-is w i (every-at (channelSound w) (channelsOf w) (d .0) i h);
         rows = λ l h. rows-are w l (every-at (rowsSound w) (linksOf w) (f .0) l h);
         row = λ i j h k.
@@ -329,12 +329,12 @@ module _ (w : Store) where
   sound-fit e =
       let a = and-eq-true-iff (longEnough w) _ .0 e in
       let b = and-eq-true-iff (countsFit w) _ .0 (a .1) in
-      let c = and-eq-true-iff (every (linkFits w) (linksOf w)) _ .0 (b .1) in
-      let d = and-eq-true-iff (every (channelSound w) (channelsOf w)) _ .0 (c .1) in
-      record { long = leb-true storeLength (length w) (a .0); counts = b .0; links = c .0; channels = d .0 }
+      let x = and-eq-true-iff (every (linkFits w) (linksOf w)) _ .0 (b .1) in
+      let d = and-eq-true-iff (every (channelSound w) (channelsOf w)) _ .0 (x .1) in
+      record { long = leb-true storeLength (length w) (a .0); counts = b .0; links = x .0; channels = d .0 }
 
 -- no place of a sound store holds more than is reserved there
-pub held-most : {w : Store} → Sound w → (c j : ℕ) → IsChannel w c → j < hopsOf w c → heldOf w c j ≤ reservedOf w c j
-held-most {w} s c j h i =
-    let r = s .row c j h i in
-    rw (r .channel, r .place) at (s .rows (routeOf w c j) (s .channel c h .route .known j i) .holds (r .at) (r .inside))
+pub held-most : {w : Store} → Sound w → (x j : ℕ) → IsChannel w x → j < hopsOf w x → heldOf w x j ≤ reservedOf w x j
+held-most {w} s x j h i =
+    let r = s .row x j h i in
+    rw (r .channel, r .place) at (s .rows (routeOf w x j) (s .channel x h .route .known j i) .holds (r .at) (r .inside))

@@ -7,10 +7,10 @@ use Rattle.store.proofs.channel.clear.Statement.{statement}
 use Rattle.store.proofs.channel.clear.Tie as tie
 
 abbrev Inv-loop : tie.InvT-loop
-Inv-loop store₀ c start i₀ store i = Clearing store₀ c store i
+Inv-loop store₀ x start i₀ store i = Clearing store₀ x store i
 
 abbrev μ-loop : tie.MeasureT-loop
-μ-loop store₀ c start i₀ store i = recordLength - i
+μ-loop store₀ x start i₀ store i = recordLength - i
 
 mul-start : tie.Need-mul-start Inv-loop μ-loop
 mul-start c = omega (arith, c .pre .1)
@@ -32,7 +32,7 @@ slice-write-store c = omega (
   arith,
   c .before .before .pre .0,
   c .before .before .pre .1,
-  clearing-length (c .before .before .args .store .now) (c .before .before .args .c) _ _ (c .before .loop .inv),
+  clearing-length (c .before .before .args .store .now) (c .before .before .args .x) _ _ (c .before .loop .inv),
 )
 
 add-i : tie.Need-add-i Inv-loop μ-loop
