@@ -102,8 +102,8 @@ pub extern "C" fn byanghosu_open(
     let outcome = opening.outcome;
     let r = opening.responses;
     *responses = r;
-    let d = opening.delays;
-    *delays = d;
+    let given = opening.delays;
+    *delays = given;
     let packets = opening.reserved;
     *reserved = packets;
     match outcome {

@@ -13,7 +13,7 @@ use Rattle.checks.specs.Checks.{Check}
 use Rattle.checks.proofs.Laws.{AllHold, all-passed, fails-after}
 use Rattle.offer_rules.specs.declared.Offered.the-variants.{Accepted, Refused}
 use Rattle.offer_rules.specs.Offer.{offerTime, inBurst, offered, offerChecks, offerAnswer, offerStore}
-use Rattle.offer_keeps.specs.Room.{hasRoom}
+use Rattle.offer_keeps.specs.Room.{takesMessage}
 use Rattle.offer_keeps.proofs.Sound.{offered-sound}
 
 -- What the checks before the last one say.
@@ -39,7 +39,7 @@ module _ (w : Store) (x packets : ℕ) where
       }
 
   -- the last check, as the code looks at it
-  pub room-decides : Passed w x packets → soundOf (offered w x packets) ≡ hasRoom w x packets
+  pub room-decides : Passed w x packets → soundOf (offered w x packets) ≡ takesMessage w x packets
   room-decides p = offered-sound w x packets (p .sound) (p .running) (p .known) (p .least) (p .most) (p .burst)
 
   pub answer-refused : {y : Check} {rest : List Check} (k : ℕ) → drop k (offerChecks w x packets) ≡ y ∷ rest

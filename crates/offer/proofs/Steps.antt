@@ -11,7 +11,7 @@ use Rattle.store.specs.Layout.{Store, ring, clockOf, cOf, pOf, bOf, messagesOf,
 use Rattle.store.specs.Amounts.{reservedOf, heldOf}
 use Rattle.store.specs.Sound.{inOrder}
 use Rattle.offer_rules.specs.Offer.{timeAfter, offerTime, inBurst, offered}
-use Rattle.offer_keeps.specs.Room.{hasRoom}
+use Rattle.offer_keeps.specs.Room.{takesMessage}
 
 module _ (w : Store) (x : ℕ) where
   -- "for the first it is the present slot"
@@ -73,15 +73,15 @@ module _ {u n : ℕ} (e : u ≡ n) where
 
 -- 17, looked at last: test by test, where u and y are what the code was told
 module _ (w : Store) (x packets n : ℕ) (en : n ≡ messagesOf w x) {u : Bool} (ex : u ≡ isNumber (n + 1)) where
-  pub room-uncounted : not u ≡ true → false ≡ hasRoom w x packets
+  pub room-uncounted : not u ≡ true → false ≡ takesMessage w x packets
   room-uncounted h = fails (rw en at ex) _ h
 
   module _ (h : not u ≡ false) {y : Bool} (ey : y ≡ inOrder w x n (ring - 2)) where
-    pub room-unkept : not y ≡ true → false ≡ hasRoom w x packets
+    pub room-unkept : not y ≡ true → false ≡ takesMessage w x packets
     room-unkept l = passes (rw en at ex) h (fails (rw en at ey) _ l)
 
     pub room-is : not y ≡ false → (held reserved : ℕ) → held ≡ heldOf w x 0 → reserved ≡ reservedOf w x 0
-        → leb (held + packets) reserved ≡ hasRoom w x packets
+        → leb (held + packets) reserved ≡ takesMessage w x packets
     room-is l held reserved eh er = passes (rw en at ex) h (passes (rw en at ey) l (rw (eh, er)))
 
 -- the three writes, one after the other

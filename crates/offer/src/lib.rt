@@ -11,7 +11,7 @@ ghost use Rattle.kinds.specs.Ranges.{within};
 ghost use Rattle.store.specs.Layout.{cOf, messagesOf, IsChannel};
 ghost use Rattle.store.specs.Sound.{soundOf};
 ghost use Rattle.offer_rules.specs.Offer.{offerTime, inBurst, offered, offerAnswer, offerStore};
-ghost use Rattle.offer_keeps.specs.Room.{hasRoom};
+ghost use Rattle.offer_keeps.specs.Room.{takesMessage};
 
 // 12: whether a message has 1 to C packets.
 fn is_message(store: &[u64], x: usize, packets: u64) -> bool
@@ -49,11 +49,11 @@ fn in_burst(store: &[u64], x: usize, time: u64) -> bool
 }
 
 // 17, looked at last: whether one message more may be counted and kept, and its packets held.
-fn has_room(store: &[u64], x: usize, packets: u64) -> bool
+fn takes_message(store: &[u64], x: usize, packets: u64) -> bool
     requires { ⌜ soundOf (now store) ≡ true ⌝ }
     requires { ⌜ IsChannel (now store) x ⌝ }
     requires { ⌜ packets ≤ cOf (now store) x ⌝ }
-    ensures { λ r. ⌜ r ≡ hasRoom (now (store .entry)) x packets ⌝ }
+    ensures { λ r. ⌜ r ≡ takesMessage (now (store .entry)) x packets ⌝ }
 {
     let n = channel::messages(store, x);
     if !Slot::is_number(n + 1) {
@@ -88,7 +88,7 @@ fn answer(store: &[u64], number: u64, packets: u64) -> Offered
     if !in_burst(store, x, time) {
         return Offered::Refused(13, 0);
     }
-    if !has_room(store, x, packets) {
+    if !takes_message(store, x, packets) {
         return Offered::Refused(17, 0);
     }
     Offered::Accepted(channel::messages(store, x), time)

@@ -17,7 +17,7 @@ use Rattle.slot_rules.proofs.Laws.Head.{MessageIs, message-found, sent-least, e
 use Rattle.offer_keeps.proofs.Frame.{offered-messages}
 use Rattle.offer_keeps.proofs.Order.{sent-kept, end-kept}
 
--- `order` is what an offer looks at before it is accepted (`hasRoom`)
+-- `order` is what an offer looks at before it is accepted (`takesMessage`)
 module _ (w : Store) (x packets : ℕ) (few : x < mostChannels) (long : Long w) (k : ChannelIs w x)
     (order : inOrder w x (messagesOf w x) (ring - 2) ≡ true) (j : ℕ) (h : j < hopsOf w x)
     (held : sentOf w x j < enteredOf w x j) where

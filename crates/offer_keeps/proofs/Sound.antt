@@ -17,7 +17,7 @@ use Rattle.store_same.proofs.Same.{channel-same, held-same}
 use Rattle.store_same.proofs.Settled.{Settled, CourseIs, network-same, channels-same, c-kept, hops-kept, reserved-kept}
 use Rattle.store_same.proofs.Settled.{settled-sound}
 use Rattle.offer_rules.specs.Offer.{offerTime, inBurst, offered}
-use Rattle.offer_keeps.specs.Room.{hasRoom}
+use Rattle.offer_keeps.specs.Room.{takesMessage}
 use Rattle.offer_keeps.proofs.Frame.{offered-clock, offered-other, offered-settled, offered-messages, offered-time}
 use Rattle.offer_keeps.proofs.Order.{sent-kept, order-new}
 use Rattle.offer_keeps.proofs.Held.{accepted-new, held-new, held-later}
@@ -61,7 +61,7 @@ module _ (w : Store) (x packets : ℕ) (sound : soundOf w ≡ true) (clock : clo
   order-is : inOrder later x (n + 1) (ring - 1) ≡ inOrder w x n (ring - 2)
   order-is = order-new w x packets few (s .long) k least most
 
-  module _ (room : hasRoom w x packets ≡ true) where
+  module _ (room : takesMessage w x packets ≡ true) where
     counted : (isNumber (n + 1) ≡ true) × ((inOrder w x n (ring - 2) && leb (heldOf w x 0 + packets) (reservedOf w x 0)) ≡ true)
     counted = and-eq-true-iff (isNumber (n + 1)) _ .0 room
 
@@ -112,7 +112,7 @@ module _ (w : Store) (x packets : ℕ) (sound : soundOf w ≡ true) (clock : clo
     sound-after =
         is-sound later (settled-sound settled s (rw (offered-clock w x packets) (s .counts .clock-most)) course held)
 
-  room-before : soundOf later ≡ true → hasRoom w x packets ≡ true
+  room-before : soundOf later ≡ true → takesMessage w x packets ≡ true
   room-before e =
       let t = sound-is later e in
       let i : IsChannel later x = rw (channels-same settled) h in
@@ -125,5 +125,5 @@ module _ (w : Store) (x packets : ℕ) (sound : soundOf w ≡ true) (clock : clo
       (le-leb (heldOf w x 0 + packets) (reservedOf w x 0) g))
 
   -- The second 17 of an offer: what the code looks at is whether the store after it is sound.
-  pub offered-sound : soundOf (offered w x packets) ≡ hasRoom w x packets
+  pub offered-sound : soundOf (offered w x packets) ≡ takesMessage w x packets
   offered-sound = one-test _ _ room-before sound-after

@@ -10,7 +10,7 @@ use Rattle.store.specs.Sound.{inOrder}
 
 -- One message more may be counted, and kept: at most 22 are undelivered before it. And its packets are held within what is
 -- reserved.
-abbrev pub hasRoom : Store → (x packets : ℕ) → Bool
-hasRoom w x packets =
+abbrev pub takesMessage : Store → (x packets : ℕ) → Bool
+takesMessage w x packets =
     isNumber (messagesOf w x + 1)
     && (inOrder w x (messagesOf w x) (ring - 2) && leb (heldOf w x 0 + packets) (reservedOf w x 0))

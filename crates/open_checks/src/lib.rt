@@ -16,13 +16,13 @@ ghost use Rattle.folds.specs.Folds.{firstNot};
 ghost use Rattle.store.specs.Route.{from, Known};
 ghost use Rattle.checks.specs.Checks.{firstFailed};
 ghost use Rattle.open_rules.specs.declared.Outcome.the-variants.{Accepted, Refused};
-ghost use Rattle.open_rules.specs.Refusal.{hasRoom, earlyChecks};
+ghost use Rattle.open_rules.specs.Refusal.{takesRow, earlyChecks};
 
 // 7: the first place of the route whose link has no room for a row, or the route's length.
 fn crowded_link(store: &[u64], route: &[u64]) -> usize
     requires { ⌜ Long (now store) ⌝ }
     requires { ⌜ Known (from (now route) 0) (length (now route)) ⌝ }
-    ensures { λ r. ⌜ r ≡ firstNot (hasRoom (now (store .entry)) (from (now (route .entry)) 0)) (length (now (route .entry))) ⌝ }
+    ensures { λ r. ⌜ r ≡ firstNot (takesRow (now (store .entry)) (from (now (route .entry)) 0)) (length (now (route .entry))) ⌝ }
 {
     let n = route.len();
     let mut j: usize = 0;

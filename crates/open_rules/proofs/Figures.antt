@@ -19,8 +19,8 @@ use Rattle.open_rules.specs.Join.{withRow, rowsBefore}
 use Rattle.open_rules.specs.Refusal.{earlyChecks, lateChecks}
 
 -- a store in which link 0 has a buffer of 64, and one in which it has rows of delay 2 and 3
-room : Store
-room = withBuffer (replicate 2_000 0) 0 64
+network : Store
+network = withBuffer (replicate 2_000 0) 0 64
 
 rowed : Store
 rowed = withDelay (withDelay (withRow (withRow (withRows (replicate 2_000 0) 0 2) 0 0 0 0) 0 1 1 0) 0 0 2) 1 0 3
@@ -33,12 +33,12 @@ outcome : Store → Request → Outcome
 outcome w q = firstFailed Refused (take 3 (lateChecks w q)) (Accepted 0)
 
 -- a channel that fills the buffer, and one that asks for a packet more: B × C
-full : outcome room (asked 32 100 40 2) ≡ Accepted 0
-unfolding outcome asked firstFailed every firstNot sumTo reserved reservedOf room rowsTo smallest response tried need start packets work ceil
+full : outcome network (asked 32 100 40 2) ≡ Accepted 0
+unfolding outcome asked firstFailed every firstNot sumTo reserved reservedOf network rowsTo smallest response tried need start packets work ceil
 full = refl
 
-over : outcome room (asked 13 100 40 5) ≡ Refused 10 0
-unfolding outcome asked firstFailed every firstNot sumTo reserved reservedOf room rowsTo smallest response tried need start packets work ceil
+over : outcome network (asked 13 100 40 5) ≡ Refused 10 0
+unfolding outcome asked firstFailed every firstNot sumTo reserved reservedOf network rowsTo smallest response tried need start packets work ceil
 over = refl
 
 -- two links in a row

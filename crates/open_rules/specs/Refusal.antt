@@ -34,8 +34,8 @@ opened w q =
     withChannels (rowsJoined (channelWritten w (channelsOf w) q (delaysOf w q)) (channelsOf w) (hops q)) (channelsOf w + 1)
 
 -- 7: "a link of the route has 32 rows"; here is room for one more
-abbrev pub hasRoom : Store → (route : ℕ → ℕ) → (j : ℕ) → Bool
-hasRoom w route j = ltb (rowsOf w (route j)) mostRows
+abbrev pub takesRow : Store → (route : ℕ → ℕ) → (j : ℕ) → Bool
+takesRow w route j = ltb (rowsOf w (route j)) mostRows
 
 -- 17, 14 and 1 to 7: what can be said before the search
 abbrev pub earlyChecks : Store → Request → List Check
@@ -48,7 +48,7 @@ earlyChecks w q =
     ∷ (checkAll 4 (isNew (link q)) (hops q)
     ∷ (checkAll 5 (joins w (link q)) (hops q)
     ∷ (check 6 (ltb (channelsOf w) mostChannels)
-    ∷ (checkAll 7 (hasRoom w (link q)) (hops q)
+    ∷ (checkAll 7 (takesRow w (link q)) (hops q)
     ∷ []))))))))
 
 -- 8 to 10, and 17 if "the call would leave one that is not" sound

@@ -56,30 +56,30 @@ module _ {w : Store} {h : List Event} (i : Invariant w h) where
       go (Accepted n time) e = rw e (offer-keeps i x packets n time e)
       go (Refused number place) e = rw (refused-offer w x packets number place e, e, append-nil h) i
 
-  slot-call : (room : ℕ) → Invariant (storeAfter (runs room) w) (h ++ eventsIn (runs room) w)
+  slot-call : (size : ℕ) → Invariant (storeAfter (runs size) w) (h ++ eventsIn (runs size) w)
   unfolding storeAfter eventsIn
-  slot-call room = go (slotTurn w room) refl
+  slot-call size = go (slotTurn w size) refl
     where
-      go : (t : Turn) → slotTurn w room ≡ t → Invariant (slotStore w room) (h ++ map sent (slotSent w room))
-      go Ran e = slot-keeps i room e
+      go : (t : Turn) → slotTurn w size ≡ t → Invariant (slotStore w size) (h ++ map sent (slotSent w size))
+      go Ran e = slot-keeps i size e
       go (NotRun number place) e = rw (e, append-nil h) i
 
   any-call : (y : Call) → Invariant (storeAfter y w) (h ++ eventsIn y w)
   any-call (opens q) = open-call q
   any-call (offers x packets) = offer-call x packets
-  any-call (runs room) = slot-call room
+  any-call (runs size) = slot-call size
 
-  slot-number : (room : ℕ) (t : Turn) → slotTurn w room ≡ t → slotNumber w room ≡ 17 → ⊥
-  slot-number room Ran e f = let z : _≡_ {A = ℕ} 0 17 = rw e at f in omega arith
-  slot-number room (NotRun number place) e f =
+  slot-number : (size : ℕ) (t : Turn) → slotTurn w size ≡ t → slotNumber w size ≡ 17 → ⊥
+  slot-number size Ran e f = let z : _≡_ {A = ℕ} 0 17 = rw e at f in omega arith
+  slot-number size (NotRun number place) e f =
       let z : number ≡ 17 = rw e at f in
-      slot-never (i .seen) (i .steady) (i .near) room place (rw z at e)
+      slot-never (i .seen) (i .steady) (i .near) size place (rw z at e)
 
   never-17 : Never17 w h
   never-17 = (
     (λ q. open-never w q (is-sound w (i .seen .sound))),
     (offer-never (i .seen) (i .steady) (i .burst)),
-    (λ room e. slot-number room (slotTurn w room) refl (omega (arith, e))),
+    (λ size e. slot-number size (slotTurn w size) refl (omega (arith, e))),
   )
 
 -- the invariant of every store that is reached

@@ -16,15 +16,15 @@ use Rattle.promise.proofs.Promise.{holds}
 
 module _ (w : Store) (h : List Event) (r : Reached w h) where
   -- the least output that a slot takes
-  abbrev room : ℕ
-  room = 5 * linksOf w
+  abbrev size : ℕ
+  size = 5 * linksOf w
 
-  run-reached : (m : ℕ) → m ≤ idleOf w → Reached (run w room m) h
+  run-reached : (m : ℕ) → m ≤ idleOf w → Reached (run w size m) h
   unfolding run storeAfter eventsIn
   run-reached zero l = r
   run-reached (suc m) l =
-      let none = run-sent w (is-sound w (holds w h r .seen .sound)) room (omega arith) m (omega arith) in
-      rw (none, append-nil h) at (next (run w room m) h (run-reached m (omega arith)) (runs room))
+      let none = run-sent w (is-sound w (holds w h r .seen .sound)) size (omega arith) m (omega arith) in
+      rw (none, append-nil h) at (next (run w size m) h (run-reached m (omega arith)) (runs size))
 
   pub skip-reached : (n : ℕ) → Reached (skipStore w n) h
-  skip-reached n = rw (skip-runs w room n (omega arith)) (run-reached (skipped w n) (min-le-right n (idleOf w)))
+  skip-reached n = rw (skip-runs w size n (omega arith)) (run-reached (skipped w n) (min-le-right n (idleOf w)))

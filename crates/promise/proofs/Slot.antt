@@ -30,14 +30,14 @@ events-of : (w : Store) (all : Accepted) (xs : List Send) → Every (EventIs w a
 events-of w all [] = tt
 events-of w all (y ∷ xs) = (tt, events-of w all xs)
 
-module _ {w : Store} {h : List Event} (i : Invariant w h) (room : ℕ) (r : slotTurn w room ≡ Ran) where
+module _ {w : Store} {h : List Event} (i : Invariant w h) (size : ℕ) (r : slotTurn w size ≡ Ran) where
   abbrev sends : List Event
   sends = map sent (slotSends w)
 
   running : clockOf w < endSlot
   unfolding slotTurn
   running =
-      let all = accepted-all NotRun (slotChecks w room) Ran Ran (λ m at e. let z : _≡_ {A = ℕ} 0 1 = cc in omega arith) r in
+      let all = accepted-all NotRun (slotChecks w size) Ran Ran (λ m at e. let z : _≡_ {A = ℕ} 0 1 = cc in omega arith) r in
       ltb-true (clockOf w) endSlot (all .1 .0)
 
   without : (x : ℕ) → messagesIn (h ++ sends) x ≡ messagesIn h x
@@ -69,5 +69,5 @@ module _ {w : Store} {h : List Event} (i : Invariant w h) (room : ℕ) (r : slot
     known = λ x k. still-opened h sends x (i .known x (rw (channels-same (moved-settled (i .seen .sound))) at k));
   }
 
-  pub slot-keeps : Invariant (slotStore w room) (h ++ map sent (slotSent w room))
+  pub slot-keeps : Invariant (slotStore w size) (h ++ map sent (slotSent w size))
   slot-keeps = rw r after

@@ -32,11 +32,11 @@ use Rattle.promise_sends.specs.Sends.{isOn, isMessage, nameOf as nameSent}
 
 -- Calls, and what happens.
 
--- the calls after set-up, with any arguments; `room` is the length of the output that is lent to a slot
+-- the calls after set-up, with any arguments; `size` is the length of the output that is lent to a slot
 pub data Call : Type 0 where
   opens : Request → Call
   offers : (channel packets : ℕ) → Call
-  runs : (room : ℕ) → Call
+  runs : (size : ℕ) → Call
 
 -- a channel was opened, and this was the answer; a message was accepted; a packet was sent
 pub data Event : Type 0 where
@@ -48,7 +48,7 @@ pub data Event : Type 0 where
 unfoldable pub storeAfter : Call → Store → Store
 storeAfter (opens q) w = openStore w q
 storeAfter (offers x packets) w = offerStore w x packets
-storeAfter (runs room) w = slotStore w room
+storeAfter (runs size) w = slotStore w size
 
 -- and what happens in it: nothing if it is refused, but a refused call is a call too
 unfoldable pub openEvents : Outcome → Request → Opening → List Event
@@ -62,7 +62,7 @@ offerEvents (Refused number place) x packets = []
 unfoldable pub eventsIn : Call → Store → List Event
 eventsIn (opens q) w = openEvents (openOutcome w q) q (openAnswer w q)
 eventsIn (offers x packets) w = offerEvents (offerAnswer w x packets) x packets
-eventsIn (runs room) w = map sent (slotSent w room)
+eventsIn (runs size) w = map sent (slotSent w size)
 
 -- The stores that are reached from set-up, of any lent store with any good links, by any calls in any order, each with all that
 -- has happened on the way.
@@ -159,7 +159,7 @@ module _ (w : Store) (h : List Event) where
   abbrev pub Never17 : Type 0
   Never17 = ((q : Request) (place : ℕ) → openOutcome w q ≡ NotOpened 17 place → ⊥)
       × ((x packets place : ℕ) → offerAnswer w x packets ≡ Refused 17 place → ⊥)
-      × ((room : ℕ) → slotNumber w room ≡ 17 → ⊥)
+      × ((size : ℕ) → slotNumber w size ≡ 17 → ⊥)
 
 -- 6. "whether a message is accepted, and its logical time, depends only on that channel's numbers, its own accepted messages, the
 -- packets offered and the present slot": the answer to an offer is this function of them. `times` are the logical times of the

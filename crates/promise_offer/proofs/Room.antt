@@ -24,7 +24,7 @@ use Rattle.promise_queue.specs.Queue.{passed}
 use Rattle.promise_queue.proofs.Ends.{time-least}
 use Rattle.promise_queue.proofs.More.{length-more, time-new, end-old}
 use Rattle.promise_queue.proofs.Few.{passed-end, few-held, few-live}
-use Rattle.offer_keeps.specs.Room.{hasRoom}
+use Rattle.offer_keeps.specs.Room.{takesMessage}
 use Rattle.promise_view.specs.View.{Accepted}
 use Rattle.promise_view.proofs.Seen.{Seen, Steady, InBurst}
 use Rattle.promise_offer.proofs.Passed.{Passed, message}
@@ -106,5 +106,5 @@ module _ {w : Store} {all : Accepted} (s : Seen w all) {x packets : ℕ} (p : Pa
         (λ e times apart. on-first (pOf w x) e times apart (clockOf w) d (bOf w x) (k .good .b-least) (omega arith)) in
         omega (arith, held, ended-more 0 ms (message w x packets), k .flows 0 (k .hops-least))
 
-    pub has-room : hasRoom w x packets ≡ true
-    has-room = both _ _ number-small (both _ _ order-kept (le-leb (heldOf w x 0 + packets) (reservedOf w x 0) held-small))
+    pub takes-message : takesMessage w x packets ≡ true
+    takes-message = both _ _ number-small (both _ _ order-kept (le-leb (heldOf w x 0 + packets) (reservedOf w x 0) held-small))

@@ -13,13 +13,13 @@ use Rattle.promise_view.proofs.Settled.{tables-kept}
 use Rattle.promise_offer.proofs.Passed.{Passed, Adds}
 use Rattle.promise_offer.proofs.Kept.{offer-settled}
 use Rattle.promise_offer.proofs.Told.{offer-told, offer-orderly, offer-none}
-use Rattle.promise_offer.proofs.Room.{has-room}
+use Rattle.promise_offer.proofs.Room.{takes-message}
 
 module _ {w : Store} {all : Accepted} (s : Seen w all) {x packets : ℕ} (p : Passed w x packets) where
   pub offer-sound : Steady w all → InBurst w all → soundOf (offered w x packets) ≡ true
   offer-sound on burst =
       offered-sound w x packets (is-sound w (s .sound)) (p .running) (p .known) (p .least) (p .most) (p .burst)
-      ∙ has-room s p on burst
+      ∙ takes-message s p on burst
 
   pub offer-seen : {all′ : Accepted} → Adds w x packets all all′ → Steady w all → InBurst w all → Seen (offered w x packets) all′
   offer-seen a on burst = record {

@@ -18,11 +18,11 @@ use Rattle.promise_slot.proofs.Sound.{sound-after}
 refused-number : (m n i at : ℕ) → Refused m i ≡ Refused n at → m ≡ n
 refused-number m n i at e = cc e
 
-pub never-17 : {w : Store} {all : Accepted} → Seen w all → Steady w all → Near w all → (room place : ℕ)
-    → slotTurn w room ≡ Refused 17 place → ⊥
+pub never-17 : {w : Store} {all : Accepted} → Seen w all → Steady w all → Near w all → (size place : ℕ)
+    → slotTurn w size ≡ Refused 17 place → ⊥
 unfolding slotTurn
-never-17 {w} s on near room place e =
-    let checks = slotChecks w room in
+never-17 {w} s on near size place e =
+    let checks = slotChecks w size in
     let front = clear-passed Refused refused-number 17 place (take 3 checks) _
     ((λ _. is-sound w (s .sound)), clear-other 17 (drop 1 (take 3 checks)) refl)
     (sym (failed-append Refused (take 3 checks) (drop 3 checks) Ran) ∙ e) in

@@ -25,12 +25,12 @@ use Rattle.slot_checks.proofs.Checks.{never-ran, picks-made}
 abbrev pub Refusal : (number place : ℕ) → Type 0
 Refusal number place = ((number ≡ 17) ⊎ ((number ≡ 14) ⊎ (number ≡ 15))) × (place ≡ 0)
 
-module _ (w : Store) (room : ℕ) where
+module _ (w : Store) (size : ℕ) where
   -- a slot that ran
-  module _ (e : slotTurn w room ≡ Ran) where
-    holds : AllHold (slotChecks w room)
+  module _ (e : slotTurn w size ≡ Ran) where
+    holds : AllHold (slotChecks w size)
     unfolding slotTurn
-    holds = accepted-all Refused (slotChecks w room) Ran Ran never-ran e
+    holds = accepted-all Refused (slotChecks w size) Ran Ran never-ran e
 
     -- it stood on these
     pub ran-sound : soundOf w ≡ true
@@ -39,25 +39,25 @@ module _ (w : Store) (room : ℕ) where
     pub ran-before-end : clockOf w < endSlot
     ran-before-end = ltb-true (clockOf w) endSlot (holds .1 .0)
 
-    pub ran-room : 5 * linksOf w ≤ room
-    ran-room = leb-true (5 * linksOf w) room (holds .1 .1 .0)
+    pub ran-room : 5 * linksOf w ≤ size
+    ran-room = leb-true (5 * linksOf w) size (holds .1 .1 .0)
 
-    pub slot-sound : soundOf (slotStore w room) ≡ true
+    pub slot-sound : soundOf (slotStore w size) ≡ true
     slot-sound = rw e (holds .1 .1 .1 .0)
 
     -- and its picks are what the links pick
-    pub ran-picks : (held : List ℕ) → picksLeft w room held ≡ picksTo w (linksOf w)
-    ran-picks held = picks-made w room held (holds .0, (holds .1 .0, (holds .1 .1 .0, tt)))
+    pub ran-picks : (held : List ℕ) → picksLeft w size held ≡ picksTo w (linksOf w)
+    ran-picks held = picks-made w size held (holds .0, (holds .1 .0, (holds .1 .1 .0, tt)))
 
-    sends-fit : 5 * length (slotSends w) ≤ room
+    sends-fit : 5 * length (slotSends w) ≤ size
     sends-fit = omega (arith, ran-room, sends-most w (linksOf w))
 
   -- a refused one
-  module _ (number place : ℕ) (e : slotTurn w room ≡ Refused number place) where
-    pub refused-store : slotStore w room ≡ w
+  module _ (number place : ℕ) (e : slotTurn w size ≡ Refused number place) where
+    pub refused-store : slotStore w size ≡ w
     refused-store = rw e
 
-    pub refused-sends : slotSent w room ≡ []
+    pub refused-sends : slotSent w size ≡ []
     refused-sends = rw e
 
     pub refused-number : Refusal number place
@@ -66,14 +66,14 @@ module _ (w : Store) (room : ℕ) where
         let at-17 : Refusal 17 0 = (inl refl, refl) in
         let at-14 : Refusal 14 0 = (inr (inl refl), refl) in
         let at-15 : Refusal 15 0 = (inr (inr refl), refl) in
-        refused-one Refused Refusal (λ m n i at f. ((cc), (cc))) (slotChecks w room) Ran number place
+        refused-one Refused Refusal (λ m n i at f. ((cc), (cc))) (slotChecks w size) Ran number place
         (at-17, (at-14, (at-15, (at-17, tt)))) (never-ran number place) e
 
   -- either way the sends have room
-  pub sent-fits : 5 * length (slotSent w room) ≤ room
-  sent-fits = go (slotTurn w room) refl
+  pub sent-fits : 5 * length (slotSent w size) ≤ size
+  sent-fits = go (slotTurn w size) refl
     where
-      go : (t : Turn) → slotTurn w room ≡ t → 5 * length (slotSent w room) ≤ room
+      go : (t : Turn) → slotTurn w size ≡ t → 5 * length (slotSent w size) ≤ size
       go Ran e = rw e (sends-fit e)
       go (Refused number place) e = rw e (omega arith)
 

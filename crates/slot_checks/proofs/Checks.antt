@@ -28,36 +28,36 @@ module _ {x clock : ℕ} (e : x ≡ clock) where
   pub before-end : x < endSlot → ltb clock endSlot ≡ true
   before-end h = lt-ltb clock endSlot (rw e at h)
 
-module _ {x links room : ℕ} (e : x ≡ links) where
-  pub too-short : room < 5 * x → leb (5 * links) room ≡ false
-  too-short h = lt-leb (5 * links) room (rw e at h)
+module _ {x links size : ℕ} (e : x ≡ links) where
+  pub too-short : size < 5 * x → leb (5 * links) size ≡ false
+  too-short h = lt-leb (5 * links) size (rw e at h)
 
-  pub long-enough : 5 * x ≤ room → leb (5 * links) room ≡ true
-  long-enough h = le-leb (5 * links) room (rw e at h)
+  pub long-enough : 5 * x ≤ size → leb (5 * links) size ≡ true
+  long-enough h = le-leb (5 * links) size (rw e at h)
 
 -- a slot that is refused has not run
 pub never-ran : {P : Type 0} (number place : ℕ) → Refused number place ≡ Ran → P
 never-ran number place e = absurd (let z : _≡_ {A = ℕ} 0 1 = cc in omega arith)
 
-module _ (w : Store) (room : ℕ) where
+module _ (w : Store) (size : ℕ) where
   -- the last check, once those before it hold
-  pub room-decides : AllHold (take 3 (slotChecks w room)) → soundOf (moved w) ≡ every (roomAfter w) (linksOf w)
+  pub room-decides : AllHold (take 3 (slotChecks w size)) → soundOf (moved w) ≡ every (roomAfter w) (linksOf w)
   room-decides h = moved-sound w (h .0) (ltb-true (clockOf w) endSlot (h .1 .0))
 
-  pub turn-refused : {x : Check} {rest : List Check} (k : ℕ) → drop k (slotChecks w room) ≡ x ∷ rest
-      → AllHold (take k (slotChecks w room)) → x .holds ≡ false → Refused (x .number) (x .place) ≡ slotTurn w room
+  pub turn-refused : {x : Check} {rest : List Check} (k : ℕ) → drop k (slotChecks w size) ≡ x ∷ rest
+      → AllHold (take k (slotChecks w size)) → x .holds ≡ false → Refused (x .number) (x .place) ≡ slotTurn w size
   unfolding slotTurn
-  turn-refused k e h f = fails-after Refused (slotChecks w room) k Ran e h f
+  turn-refused k e h f = fails-after Refused (slotChecks w size) k Ran e h f
 
-  pub turn-ran : AllHold (slotChecks w room) → slotTurn w room ≡ Ran
+  pub turn-ran : AllHold (slotChecks w size) → slotTurn w size ≡ Ran
   unfolding slotTurn
-  turn-ran h = all-passed Refused (slotChecks w room) Ran h
+  turn-ran h = all-passed Refused (slotChecks w size) Ran h
 
   -- what is left in the lent array: what it held, where one of the first three checks fails; else what the links pick
   module _ (held : List ℕ) where
-    pub picks-stay : {x : Check} {rest : List Check} (k : ℕ) → drop k (take 3 (slotChecks w room)) ≡ x ∷ rest
-        → AllHold (take k (take 3 (slotChecks w room))) → x .holds ≡ false → held ≡ picksLeft w room held
-    picks-stay k e h f = fails-after (λ number place. held) (take 3 (slotChecks w room)) k (picksTo w (linksOf w)) e h f
+    pub picks-stay : {x : Check} {rest : List Check} (k : ℕ) → drop k (take 3 (slotChecks w size)) ≡ x ∷ rest
+        → AllHold (take k (take 3 (slotChecks w size))) → x .holds ≡ false → held ≡ picksLeft w size held
+    picks-stay k e h f = fails-after (λ number place. held) (take 3 (slotChecks w size)) k (picksTo w (linksOf w)) e h f
 
-    pub picks-made : AllHold (take 3 (slotChecks w room)) → picksLeft w room held ≡ picksTo w (linksOf w)
-    picks-made h = all-passed (λ number place. held) (take 3 (slotChecks w room)) (picksTo w (linksOf w)) h
+    pub picks-made : AllHold (take 3 (slotChecks w size)) → picksLeft w size held ≡ picksTo w (linksOf w)
+    picks-made h = all-passed (λ number place. held) (take 3 (slotChecks w size)) (picksTo w (linksOf w)) h

@@ -12,7 +12,7 @@ use Rattle.store.specs.Sound.{soundOf}
 use Rattle.store.specs.Ranged.{Ranged}
 use Rattle.store.proofs.Laws.Sound.{sound-is, sound-fit, fit-ranged}
 use Rattle.slot_rules.specs.Pick.{pickOf}
-use Rattle.slot_keeps.specs.Room.{leaves, hasRoom, roomAfter}
+use Rattle.slot_keeps.specs.Room.{leaves, takesPacket, roomAfter}
 
 -- a place of a channel's route can be read, and is on a link
 module _ (w : Store) (sound : soundOf w ≡ true) (x j : ℕ) (h : IsChannel w x) (i : j < hopsOf w x) where
@@ -46,12 +46,12 @@ module _ (w : Store) (l : ℕ) where
     pub after-last : hops ≤ j + 1 → true ≡ roomAfter w l
     after-last h = let m : hopsOf w x ≤ j + 1 = rw n at h in rw (e, ← a, ← b, le-leb (hopsOf w x) (j + 1) m)
 
-    pub after-next : j + 1 < hops → (y : Bool) → y ≡ hasRoom w x (j + 1) → y ≡ roomAfter w l
+    pub after-next : j + 1 < hops → (y : Bool) → y ≡ takesPacket w x (j + 1) → y ≡ roomAfter w l
     after-next h y r = let m : j + 1 < hopsOf w x = rw n at h in rw (e, ← a, ← b, lt-leb (hopsOf w x) (j + 1) m) r
 
 module _ (w : Store) (x j held reserved : ℕ) (a : held ≡ heldOf w x j) (b : reserved ≡ reservedOf w x j) where
-  pub room-free : held < reserved → true ≡ hasRoom w x j
+  pub room-free : held < reserved → true ≡ takesPacket w x j
   room-free h = let m : heldOf w x j < reservedOf w x j = rw (a, b) at h in rw (lt-ltb (heldOf w x j) (reservedOf w x j) m)
 
-  pub room-full : reserved ≤ held → (y : Bool) → y ≡ leaves w x j → y ≡ hasRoom w x j
+  pub room-full : reserved ≤ held → (y : Bool) → y ≡ leaves w x j → y ≡ takesPacket w x j
   room-full h y e = let m : reservedOf w x j ≤ heldOf w x j = rw (a, b) at h in rw (le-ltb (heldOf w x j) (reservedOf w x j) m) e

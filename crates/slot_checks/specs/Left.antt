@@ -7,5 +7,5 @@ use Rattle.checks.specs.Checks.{firstFailed}
 use Rattle.slot_rules.specs.Slot.{slotChecks}
 use Rattle.slot_pick.specs.Picks.{picksTo}
 
-abbrev pub picksLeft : Store → (room : ℕ) → (held : List ℕ) → List ℕ
-picksLeft w room held = firstFailed (λ number place. held) (take 3 (slotChecks w room)) (picksTo w (linksOf w))
+abbrev pub picksLeft : Store → (size : ℕ) → (held : List ℕ) → List ℕ
+picksLeft w size held = firstFailed (λ number place. held) (take 3 (slotChecks w size)) (picksTo w (linksOf w))

@@ -12,7 +12,7 @@ ghost use Rattle.folds.specs.Folds.{every};
 ghost use Rattle.store.specs.Sound.{soundOf};
 ghost use Rattle.slot_rules.specs.Slot.{slotTurn};
 ghost use Rattle.slot_pick.specs.Picks.{picksTo};
-ghost use Rattle.slot_keeps.specs.Room.{leaves as leavesAt, hasRoom, roomAfter};
+ghost use Rattle.slot_keeps.specs.Room.{leaves as leavesAt, takesPacket, roomAfter};
 ghost use Rattle.slot_checks.specs.Left.{picksLeft};
 
 // Whether a packet of channel `x` leaves place `j` of its route in this slot.
@@ -32,12 +32,12 @@ fn leaves(store: &[u64], picks: &[u64; 16], x: usize, j: usize) -> bool
 }
 
 // Whether one more may come there: fewer are held than are reserved, or one leaves.
-fn has_room(store: &[u64], picks: &[u64; 16], x: usize, j: usize) -> bool
+fn takes_packet(store: &[u64], picks: &[u64; 16], x: usize, j: usize) -> bool
     requires { ⌜ soundOf (now store) ≡ true ⌝ }
     requires { ⌜ now picks ≡ picksTo (now store) (linksOf (now store)) ⌝ }
     requires { ⌜ IsChannel (now store) x ⌝ }
     requires { ⌜ j < hopsOf (now store) x ⌝ }
-    ensures { λ r. ⌜ r ≡ hasRoom (now (store .entry)) x j ⌝ }
+    ensures { λ r. ⌜ r ≡ takesPacket (now (store .entry)) x j ⌝ }
 {
     if store_route::held(store, x, j) < store_route::reserved(store, x, j) {
         return true;
@@ -61,7 +61,7 @@ fn room_after(store: &[u64], picks: &[u64; 16], l: usize) -> bool
     if next >= channel::hops(store, x) {
         return true;
     }
-    has_room(store, picks, x, next)
+    takes_packet(store, picks, x, next)
 }
 
 // 17, looked at last: whether every picked packet has room where it goes.
@@ -81,11 +81,11 @@ fn fits(store: &[u64], picks: &[u64; 16]) -> bool
     true
 }
 
-// How a slot ends, where the output has `room` numbers: checks 17, 14, 15 and 17, in this order. Once the first three are passed,
+// How a slot ends, where the output has `size` numbers: checks 17, 14, 15 and 17, in this order. Once the first three are passed,
 // `picks` are what the links have picked.
-pub fn turn(store: &[u64], room: usize, picks: &mut [u64; 16]) -> Turn
-    ensures { λ r. ⌜ r ≡ slotTurn (now (store .entry)) room ⌝ }
-    ensures { λ _. ⌜ now (picks .exit) ≡ picksLeft (now (store .entry)) room (now (picks .entry)) ⌝ }
+pub fn turn(store: &[u64], size: usize, picks: &mut [u64; 16]) -> Turn
+    ensures { λ r. ⌜ r ≡ slotTurn (now (store .entry)) size ⌝ }
+    ensures { λ _. ⌜ now (picks .exit) ≡ picksLeft (now (store .entry)) size (now (picks .entry)) ⌝ }
 {
     if !sound::is_sound(store) {
         return Turn::Refused(17, 0);
@@ -93,7 +93,7 @@ pub fn turn(store: &[u64], room: usize, picks: &mut [u64; 16]) -> Turn
     if head::clock(store) >= Slot::END {
         return Turn::Refused(14, 0);
     }
-    if room < 5 * head::links(store) {
+    if size < 5 * head::links(store) {
         return Turn::Refused(15, 0);
     }
     *picks = slot_pick::picks(store);

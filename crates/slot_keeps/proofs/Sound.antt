@@ -17,8 +17,8 @@ use Rattle.store.proofs.Laws.Sound.{Sound, sound-is, is-sound, held-most}
 use Rattle.store_same.proofs.Settled.{reserved-kept, hops-kept, channels-same, settled-sound}
 use Rattle.slot_rules.specs.Pick.{pickOf}
 use Rattle.slot_rules.specs.Slot.{moved}
-use Rattle.slot_keeps.specs.Room.{leaves, hasRoom, roomFrom, roomAfter}
-use Rattle.slot_keeps.proofs.HasRoom.{RoomIs, room-is, is-room}
+use Rattle.slot_keeps.specs.Room.{leaves, takesPacket, roomFrom, roomAfter}
+use Rattle.slot_keeps.proofs.TakesPacket.{RoomIs, room-is, is-room}
 use Rattle.store_same.proofs.Few.{few-channels}
 use Rattle.slot_keeps.proofs.Leaves.{leaving, row-leaving}
 use Rattle.slot_keeps.proofs.After.{moved-settled, accepted-after, clock-after, sent-goes, sent-stays, sent-rises}
@@ -103,7 +103,7 @@ module _ {w : Store} (s : Sound w) where
             j : ℕ
             j = rowPlaceOf w l k
 
-            last : (b : Bool) → leb (hopsOf w x) (suc j) ≡ b → (leb (hopsOf w x) (j + 1) || hasRoom w x (j + 1)) ≡ true
+            last : (b : Bool) → leb (hopsOf w x) (suc j) ≡ b → (leb (hopsOf w x) (j + 1) || takesPacket w x (j + 1)) ≡ true
             last true f = rw (add-one j, f)
             last false f =
                 let g = leaving s l k h e in

@@ -17,14 +17,14 @@ abbrev pub leaves : Store → (x j : ℕ) → Bool
 leaves w x j = isOf w (routeOf w x j) x (pickOf w (routeOf w x j))
 
 -- and one more may come: fewer are held there than are reserved, or one leaves
-abbrev pub hasRoom : Store → (x j : ℕ) → Bool
-hasRoom w x j = ltb (heldOf w x j) (reservedOf w x j) || leaves w x j
+abbrev pub takesPacket : Store → (x j : ℕ) → Bool
+takesPacket w x j = ltb (heldOf w x j) (reservedOf w x j) || leaves w x j
 
 -- the packet of the row picked is on its last link, or has room on the next one
 abbrev pub roomFrom : Store → (l position : ℕ) → Bool
 roomFrom w l zero = true
 roomFrom w l (suc k) =
-    leb (hopsOf w (rowChannelOf w l k)) (rowPlaceOf w l k + 1) || hasRoom w (rowChannelOf w l k) (rowPlaceOf w l k + 1)
+    leb (hopsOf w (rowChannelOf w l k)) (rowPlaceOf w l k + 1) || takesPacket w (rowChannelOf w l k) (rowPlaceOf w l k + 1)
 
 abbrev pub roomAfter : Store → (l : ℕ) → Bool
 roomAfter w l = roomFrom w l (pickOf w l)

@@ -57,17 +57,17 @@ unfoldable pub moved : Store → Store
 moved w = withClock (movedTo w (linksOf w)) (clockOf w + 1)
 
 -- "Checks run in this order: .. slot 17, 14, 15", the last where the "output has room for fewer sends than there are links"; 17
--- once more "after all other checks". `room` is the length of the output.
-abbrev pub slotChecks : Store → (room : ℕ) → List Check
-slotChecks w room =
+-- once more "after all other checks". `size` is the length of the output.
+abbrev pub slotChecks : Store → (size : ℕ) → List Check
+slotChecks w size =
     check 17 (soundOf w)
     ∷ (check 14 (ltb (clockOf w) endSlot)
-    ∷ (check 15 (leb (5 * linksOf w) room)
+    ∷ (check 15 (leb (5 * linksOf w) size)
     ∷ (check 17 (soundOf (moved w))
     ∷ [])))
 
-unfoldable pub slotTurn : Store → (room : ℕ) → Turn
-slotTurn w room = firstFailed Refused (slotChecks w room) Ran
+unfoldable pub slotTurn : Store → (size : ℕ) → Turn
+slotTurn w size = firstFailed Refused (slotChecks w size) Ran
 
 -- "Two more lent numbers take its number and place, or 0 and 0 if the slot ran."
 abbrev pub numberOn : Turn → ℕ
@@ -88,17 +88,17 @@ storeOn Ran w = moved w
 storeOn (Refused number place) w = w
 
 -- The slot: its number and place, its sends, the later store, and the later output, of which "the rest .. is unchanged".
-abbrev pub slotNumber : Store → (room : ℕ) → ℕ
-slotNumber w room = numberOn (slotTurn w room)
+abbrev pub slotNumber : Store → (size : ℕ) → ℕ
+slotNumber w size = numberOn (slotTurn w size)
 
-abbrev pub slotPlace : Store → (room : ℕ) → ℕ
-slotPlace w room = placeOn (slotTurn w room)
+abbrev pub slotPlace : Store → (size : ℕ) → ℕ
+slotPlace w size = placeOn (slotTurn w size)
 
-abbrev pub slotSent : Store → (room : ℕ) → List Send
-slotSent w room = sendsOn (slotTurn w room) w
+abbrev pub slotSent : Store → (size : ℕ) → List Send
+slotSent w size = sendsOn (slotTurn w size) w
 
-abbrev pub slotStore : Store → (room : ℕ) → Store
-slotStore w room = storeOn (slotTurn w room) w
+abbrev pub slotStore : Store → (size : ℕ) → Store
+slotStore w size = storeOn (slotTurn w size) w
 
 abbrev pub written : List Send → List ℕ → List ℕ
 written sends out = numbers sends ++ drop (5 * length sends) out

@@ -58,13 +58,13 @@ sent-none w (suc n) e l h =
     below l n h (λ k. sent-none w n (b .0) l k) (λ s. rw s (picked-none w n (pickOf w n) (b .1)))
 
 -- a slot that runs, and in which no link picks any
-record Still (w : Store) (room : ℕ) : Type 0 where
+record Still (w : Store) (size : ℕ) : Type 0 where
   sound : soundOf w ≡ true
   clock : clockOf w < endSlot
-  wide : 5 * linksOf w ≤ room
+  wide : 5 * linksOf w ≤ size
   none : NonePicked w (linksOf w)
 
-module _ {w : Store} {room : ℕ} (s : Still w room) where
+module _ {w : Store} {size : ℕ} (s : Still w size) where
   still-moved : moved w ≡ withClock w (clockOf w + 1)
   unfolding moved
   still-moved = rw (none-moved w (linksOf w) (s .none))
@@ -72,16 +72,16 @@ module _ {w : Store} {room : ℕ} (s : Still w room) where
   still-sound : soundOf (moved w) ≡ true
   still-sound = rw still-moved (clock-sound w (clockOf w + 1) (s .sound) (omega (arith, s .clock)))
 
-  still-turn : slotTurn w room ≡ Ran
+  still-turn : slotTurn w size ≡ Ran
   unfolding slotTurn
   still-turn =
-      all-passed Refused (slotChecks w room) Ran
+      all-passed Refused (slotChecks w size) Ran
       (s .sound, (lt-ltb _ _ (s .clock), (le-leb _ _ (s .wide), (still-sound, tt))))
 
-  still-sent : slotSent w room ≡ []
+  still-sent : slotSent w size ≡ []
   still-sent = rw still-turn (none-sent w (linksOf w) (s .none))
 
-  still-store : slotStore w room ≡ withClock w (clockOf w + 1)
+  still-store : slotStore w size ≡ withClock w (clockOf w + 1)
   still-store = rw still-turn still-moved
 
 module _ (w : Store) (e : soundOf w ≡ true) where
@@ -105,9 +105,9 @@ module _ (w : Store) (e : soundOf w ≡ true) where
           rests-quiet w (idleOf w)
           (rw (links-same w (clockOf w + idleOf w)) at (sent-none (withClock w (clockOf w + idleOf w)) _ s))
 
-  module _ (room : ℕ) (wide : 5 * linksOf w ≤ room) where
+  module _ (size : ℕ) (wide : 5 * linksOf w ≤ size) where
     -- the slots up to `idleOf`, one by one
-    idle-still : (i : ℕ) → i < idleOf w → Still (withClock w (clockOf w + i)) room
+    idle-still : (i : ℕ) → i < idleOf w → Still (withClock w (clockOf w + i)) size
     idle-still i h = record {
       sound = clock-sound w (clockOf w + i) e (omega (arith, idle-most w e));
       clock = rw (clock-is i) (omega (arith, idle-most w e));
@@ -115,31 +115,31 @@ module _ (w : Store) (e : soundOf w ≡ true) where
       none = rw (links-same w (clockOf w + i)) (quiet-rests w i (idle-quiet i h));
     }
 
-    idle-store : (i : ℕ) → i < idleOf w → slotStore (withClock w (clockOf w + i)) room ≡ withClock w (clockOf w + suc i)
+    idle-store : (i : ℕ) → i < idleOf w → slotStore (withClock w (clockOf w + i)) size ≡ withClock w (clockOf w + suc i)
     idle-store i h =
         let s : clockOf w + i + 1 ≡ clockOf w + suc i = omega arith in
         rw (still-store (idle-still i h), clock-is i, s) (set-set w clockAt (clockOf w + i) (clockOf w + suc i))
 
     -- after m of them the clock alone has moved
-    pub run-clock : (m : ℕ) → m ≤ idleOf w → run w room m ≡ withClock w (clockOf w + m)
+    pub run-clock : (m : ℕ) → m ≤ idleOf w → run w size m ≡ withClock w (clockOf w + m)
     unfolding run
     run-clock zero h = sym (clock-stays w 0 refl)
     run-clock (suc m) h = rw (run-clock m (omega arith)) (idle-store m h)
 
     -- and each of them ran, and sent nothing
-    pub run-turn : (i : ℕ) → i < idleOf w → slotTurn (run w room i) room ≡ Ran
+    pub run-turn : (i : ℕ) → i < idleOf w → slotTurn (run w size i) size ≡ Ran
     run-turn i h = rw (run-clock i (omega arith)) (still-turn (idle-still i h))
 
-    pub run-sent : (i : ℕ) → i < idleOf w → slotSent (run w room i) room ≡ []
+    pub run-sent : (i : ℕ) → i < idleOf w → slotSent (run w size i) size ≡ []
     run-sent i h = rw (run-clock i (omega arith)) (still-sent (idle-still i h))
 
 -- so a skip is a run of as many slots, in any store: where it is not sound, of none
-pub skip-runs : (w : Store) (room n : ℕ) → 5 * linksOf w ≤ room → skipStore w n ≡ run w room (skipped w n)
+pub skip-runs : (w : Store) (size n : ℕ) → 5 * linksOf w ≤ size → skipStore w n ≡ run w size (skipped w n)
 unfolding run
-skip-runs w room n wide = go (soundOf w) refl
+skip-runs w size n wide = go (soundOf w) refl
   where
-    go : (t : Bool) → soundOf w ≡ t → skipStore w n ≡ run w room (skipped w n)
-    go true e = skip-sound w n e ∙ sym (run-clock w e room wide (skipped w n) (min-le-right n (idleOf w)))
+    go : (t : Bool) → soundOf w ≡ t → skipStore w n ≡ run w size (skipped w n)
+    go true e = skip-sound w n e ∙ sym (run-clock w e size wide (skipped w n) (min-le-right n (idleOf w)))
     go false e =
         let z : skipped w n ≡ 0 = omega (arith, idle-none w e) in
         rw z (skip-none w n z)

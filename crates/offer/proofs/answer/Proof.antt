@@ -76,7 +76,7 @@ past-room : (c : tie.Else6) → AllHold (checks (start-room c))
 past-room c =
     let p = c .before .before in
     one-more (checks (start-room c)) 5 refl (past-13 p)
-    (room-decides _ _ _ (passed p) ∙ held (c .before .has-room .ensures) (c .if6 .left))
+    (room-decides _ _ _ (passed p) ∙ held (c .before .takes-message .ensures) (c .if6 .left))
 
 is-sound-requires : tie.Need-is-sound-requires
 is-sound-requires c κs = search needs
@@ -128,15 +128,15 @@ returns-5 c =
     answer-refused (store s) (s .args .number) (s .args .packets) 4 refl (past-12 t)
     (refuted (c .before .in-burst .ensures) (c .if5 .taken))
 
-has-room-requires : tie.Need-has-room-requires
-has-room-requires c κs = let p = passed c in (p .sound, (p .known, p .most))
+takes-message-requires : tie.Need-takes-message-requires
+takes-message-requires c κs = let p = passed c in (p .sound, (p .known, p .most))
 
 returns-6 : tie.Need-returns-6
 returns-6 c =
     let t = c .before .before in
     let s = start-13 t in
     answer-refused (store s) (s .args .number) (s .args .packets) 5 refl (past-13 t)
-    (room-decides _ _ _ (passed t) ∙ refuted (c .before .has-room .ensures) (c .if6 .taken))
+    (room-decides _ _ _ (passed t) ∙ refuted (c .before .takes-message .ensures) (c .if6 .taken))
 
 messages-requires : tie.Need-messages-requires
 messages-requires c κs = let p = passed (c .before .before) in readable _ _ (p .sound) (p .known)
@@ -164,7 +164,7 @@ answer-spec =
     next-time-requires
     in-burst-requires
     returns-5
-    has-room-requires
+    takes-message-requires
     returns-6
     messages-requires
     returns-7)

@@ -5,13 +5,13 @@ use native.Mathlib.Omega.{arith}
 use borrow.Author.Needs.{needs}
 use Rattle.store.specs.Layout.{numberAt}
 use Rattle.folds.proofs.Folds.{Passing, passing-none, passing-more, passing-first, passing-end}
-use Rattle.open_rules.specs.Refusal.{hasRoom}
+use Rattle.open_rules.specs.Refusal.{takesRow}
 use Rattle.open_checks.proofs.Tests.{from-start, at-least, under}
 use Rattle.open_checks.proofs.crowded_link.Statement.{statement}
 use Rattle.open_checks.proofs.crowded_link.Tie as tie
 
 abbrev Inv-loop : tie.InvT-loop
-Inv-loop store route n j₀ j = Passing (hasRoom store (numberAt route)) n j
+Inv-loop store route n j₀ j = Passing (takesRow store (numberAt route)) n j
 
 abbrev μ-loop : tie.MeasureT-loop
 μ-loop store route n j₀ j = n - j

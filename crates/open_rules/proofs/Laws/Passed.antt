@@ -13,7 +13,7 @@ use Rattle.checks.proofs.Laws.{AllHold}
 use Rattle.open_rules.specs.Request.{Request, hops, link}
 use Rattle.open_rules.specs.Search.{responds}
 use Rattle.open_rules.specs.Shares.{fitsBuffer}
-use Rattle.open_rules.specs.Refusal.{hasRoom, earlyChecks, lateChecks, reservedFor}
+use Rattle.open_rules.specs.Refusal.{takesRow, earlyChecks, lateChecks, reservedFor}
 use Rattle.open_rules.proofs.Laws.Facts.{Early, Responds, Late}
 use Rattle.open_rules.proofs.Laws.Search.{found-response}
 
@@ -31,7 +31,7 @@ module _ (w : Store) (q : Request) where
         hops-most = n .1;
         route = route-is w (link q) (hops q) (both _ _ (route .1 .0) (both _ _ (route .1 .1 .0) (route .1 .1 .1 .0)));
         channels = ltb-true _ _ (places .0);
-        room = λ j k. ltb-true _ _ (every-at (hasRoom w (link q)) (hops q) (places .1 .0) j k);
+        room = λ j k. ltb-true _ _ (every-at (takesRow w (link q)) (hops q) (places .1 .0) j k);
       }
 
   pub responds-is : every (responds w (q .c) (q .p) (link q)) (hops q) ≡ true → Responds w q

@@ -59,8 +59,8 @@ returns-2 c =
     after-last _ _ _ _ _ _ (picked (r .before .before)) (r .before .row-channel .ensures) (r .row-place .ensures)
     (h .hops .ensures) (c .if2 .taken)
 
-has-room-requires : tie.Need-has-room-requires
-has-room-requires c κs =
+takes-packet-requires : tie.Need-takes-packet-requires
+takes-packet-requires c κs =
     let h = c .before in
     let r = h .before in
     let p = start (r .before .before .before) .pre in
@@ -71,7 +71,7 @@ returns-3 c =
     let h = c .before .before in
     let r = h .before in
     after-next _ _ _ _ _ _ (picked (r .before .before)) (r .before .row-channel .ensures) (r .row-place .ensures)
-    (h .hops .ensures) (c .before .if2 .left) _ (c .has-room .ensures)
+    (h .hops .ensures) (c .before .if2 .left) _ (c .takes-packet .ensures)
 
 pub room-after-spec : {M : Type 1} → statement M
 room-after-spec =
@@ -86,5 +86,5 @@ room-after-spec =
     add-next
     hops-requires
     returns-2
-    has-room-requires
+    takes-packet-requires
     returns-3)

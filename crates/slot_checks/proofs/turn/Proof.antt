@@ -18,7 +18,7 @@ use Rattle.slot_checks.proofs.turn.Tie as tie
 
 -- The checks of this call, and where the code has come so far.
 abbrev checks : tie.Start → List Check
-checks s = slotChecks (s .args .store .now) (s .args .room)
+checks s = slotChecks (s .args .store .now) (s .args .size)
 
 abbrev start-17 : tie.Else1 → tie.Start
 start-17 c = c .before .before .before
@@ -47,7 +47,7 @@ late c = c .fits2 .ensures ∙ sym (room-decides _ _ (past-15 (c .before .before
 
 -- and the picks are left in the lent array
 made : (c : tie.After-fits2) → let s = start-15 (c .before .before .before) in
-    c .before .before .picks .result ≡ picksLeft (s .args .store .now) (s .args .room) (s .args .picks .now)
+    c .before .before .picks .result ≡ picksLeft (s .args .store .now) (s .args .size) (s .args .picks .now)
 made c = c .before .before .picks .ensures ∙ sym (picks-made _ _ _ (past-15 (c .before .before .before)))
 
 is-sound-requires : tie.Need-is-sound-requires

@@ -9,13 +9,13 @@ use borrow.Author.Tests.{ltb-true, lt-ltb}
 use Rattle.store.specs.Layout.{Store}
 use Rattle.store.specs.Amounts.{reservedOf, heldOf}
 use Rattle.folds.proofs.Folds.{or-true}
-use Rattle.slot_keeps.specs.Room.{leaves, hasRoom}
+use Rattle.slot_keeps.specs.Room.{leaves, takesPacket}
 
 abbrev pub RoomIs : Store → (x j : ℕ) → Type 0
 RoomIs w x j = (heldOf w x j < reservedOf w x j) ⊎ (leaves w x j ≡ true)
 
 module _ (w : Store) (x j : ℕ) where
-  pub room-is : hasRoom w x j ≡ true → RoomIs w x j
+  pub room-is : takesPacket w x j ≡ true → RoomIs w x j
   room-is h = go (ltb (heldOf w x j) (reservedOf w x j)) (leaves w x j) refl refl
     where
       go : (a b : Bool) → ltb (heldOf w x j) (reservedOf w x j) ≡ a → leaves w x j ≡ b → RoomIs w x j
@@ -23,6 +23,6 @@ module _ (w : Store) (x j : ℕ) where
       go false true e f = inr f
       go false false e f = absurd (let g : false ≡ true = simp (e, f) at h in let z : _≡_ {A = ℕ} 0 1 = cc in omega arith)
 
-  pub is-room : RoomIs w x j → hasRoom w x j ≡ true
+  pub is-room : RoomIs w x j → takesPacket w x j ≡ true
   is-room (inl h) = rw (lt-ltb (heldOf w x j) (reservedOf w x j) h)
   is-room (inr h) = or-true (ltb (heldOf w x j) (reservedOf w x j)) (leaves w x j) h

@@ -1,10 +1,10 @@
--- `offer::has_room` meets its contract: test by test.
+-- `offer::takes_message` meets its contract: test by test.
 use native.Mathlib.Omega.{arith}
 use borrow.Author.Needs.{needs}
 use Rattle.offer.proofs.Facts.{readable, channel, ranged, count-fits, held-fits}
 use Rattle.offer.proofs.Steps.{room-uncounted, room-unkept, room-is}
-use Rattle.offer.proofs.has_room.Statement.{statement}
-use Rattle.offer.proofs.has_room.Tie as tie
+use Rattle.offer.proofs.takes_message.Statement.{statement}
+use Rattle.offer.proofs.takes_message.Tie as tie
 
 messages-requires : tie.Need-messages-requires
 messages-requires c κs = let s = c .before in readable _ _ (s .pre .0) (s .pre .1 .0)
@@ -68,8 +68,8 @@ returns-3 c =
     room-is (s .args .store .now) (s .args .x) _ _ (n .before .messages .ensures) (n .is-number .ensures) (i .if1 .left)
     (o .before .in-order .ensures) (o .if2 .left) _ _ (h .held .ensures) (c .reserved .ensures)
 
-pub has-room-spec : {M : Type 1} → statement M
-has-room-spec =
+pub takes-message-spec : {M : Type 1} → statement M
+takes-message-spec =
     tie.close
     (tie.spec
     messages-requires

@@ -1,8 +1,8 @@
--- `slot_checks::has_room` meets its contract.
+-- `slot_checks::takes_packet` meets its contract.
 use borrow.Author.Needs.{needs}
 use Rattle.slot_checks.proofs.Room.{place-ranged, place-ready, place-flows, room-free, room-full}
-use Rattle.slot_checks.proofs.has_room.Statement.{statement}
-use Rattle.slot_checks.proofs.has_room.Tie as tie
+use Rattle.slot_checks.proofs.takes_packet.Statement.{statement}
+use Rattle.slot_checks.proofs.takes_packet.Tie as tie
 
 held-requires : tie.Need-held-requires
 held-requires c κs =
@@ -26,6 +26,6 @@ returns-2 c =
     let r = c .before .before in
     room-full _ _ _ _ _ (r .before .held .ensures) (r .reserved .ensures) (c .before .if1 .left) _ (c .leaves .ensures)
 
-pub has-room-spec : {M : Type 1} → statement M
-has-room-spec =
+pub takes-packet-spec : {M : Type 1} → statement M
+takes-packet-spec =
     tie.close (tie.spec held-requires reserved-requires returns leaves-requires returns-2)
