@@ -1,6 +1,7 @@
 // What the router's control board calls, from C: numbers and lent buffers only. include/byanghosu.h declares it.
 // A call that can be refused returns the refusal number of document 01, or 0 where it ran, and a refused call writes no output but
 // `place`; a slot gives back its sends, and its number is lent, as document 01 has it.
+use kinds::Route;
 use offer_rules::Offered;
 use open_rules::Outcome;
 use response::Answer;
@@ -82,9 +83,9 @@ pub extern "C" fn byanghosu_open(
     b: u64,
     route: &[u64],
     channel: &mut u64,
-    responses: &mut [u64; 8],
-    delays: &mut [u64; 8],
-    reserved: &mut [u64; 8],
+    responses: &mut [u64; Route::MOST_HOPS],
+    delays: &mut [u64; Route::MOST_HOPS],
+    reserved: &mut [u64; Route::MOST_HOPS],
     place: &mut u64,
 ) -> u64
     ensures { λ r. ⌜ record {

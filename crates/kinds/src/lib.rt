@@ -146,7 +146,7 @@ impl Channel {
 
 // A route of `hops` links.
 pub struct Route {
-    pub hops: u64,
+    pub hops: usize,
 }
 
 pub enum CheckedRoute {
@@ -155,14 +155,14 @@ pub enum CheckedRoute {
 }
 
 impl Route {
-    pub const LEAST_HOPS: u64 = 1;
+    pub const LEAST_HOPS: usize = 1;
 
-    pub const MOST_HOPS: u64 = 8;
+    pub const MOST_HOPS: usize = 8;
 
-    pub fn new(hops: u64) -> CheckedRoute
+    pub fn new(hops: usize) -> CheckedRoute
         ensures { λ r. ⌜ r ≡ newRoute hops ⌝ }
     {
-        if is_within(Self::LEAST_HOPS, Self::MOST_HOPS, hops) {
+        if is_within(Self::LEAST_HOPS as u64, Self::MOST_HOPS as u64, hops as u64) {
             CheckedRoute::Good(Route { hops: hops })
         } else {
             CheckedRoute::Refused(2)
@@ -172,24 +172,24 @@ impl Route {
 
 // A network: how many links and channels it has.
 pub struct Network {
-    pub links: u64,
-    pub channels: u64,
+    pub links: usize,
+    pub channels: usize,
 }
 
 impl Network {
-    pub const LEAST_LINKS: u64 = 1;
+    pub const LEAST_LINKS: usize = 1;
 
-    pub const MOST_LINKS: u64 = 16;
+    pub const MOST_LINKS: usize = 16;
 
-    pub const MOST_CHANNELS: u64 = 64;
+    pub const MOST_CHANNELS: usize = 64;
 
-    pub fn links_fit(n: u64) -> bool
+    pub fn links_fit(n: usize) -> bool
         ensures { λ r. ⌜ r ≡ inRangeLinks n ⌝ }
     {
-        is_within(Self::LEAST_LINKS, Self::MOST_LINKS, n)
+        is_within(Self::LEAST_LINKS as u64, Self::MOST_LINKS as u64, n as u64)
     }
 
-    pub fn channels_fit(n: u64) -> bool
+    pub fn channels_fit(n: usize) -> bool
         ensures { λ r. ⌜ r ≡ inRangeChannels n ⌝ }
     {
         n <= Self::MOST_CHANNELS

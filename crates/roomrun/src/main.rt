@@ -3,10 +3,13 @@
 // full. docs/SCRIPT.md is the operator's reference.
 use libc::STDIN_FILENO;
 use libc::STDOUT_FILENO;
+use script_listing::BUFFER;
 use script_listing::LAST_FOR_SLOT;
+use script_play::LINKS;
 use script_play::Next;
 use script_play::Phase;
 use script_run::Run;
+use text_lines::KEPT;
 ghost use mathlib.Core.Path.{_≡_};
 ghost use Prim.Native.Nat.{_≤_};
 ghost use lib.ListN.{length};
@@ -34,7 +37,7 @@ fn make_room(out: &[u8], at: usize) -> usize
 }
 
 // Runs the slots of a `tick`, if that comes next.
-fn play_slots(store: &mut [u64; 65536], run: Run, out: &mut [u8; 65536]) -> Run
+fn play_slots(store: &mut [u64; store::LENGTH], run: Run, out: &mut [u8; BUFFER]) -> Run
     requires { ⌜ run .at ≤ bufferLength ⌝ }
     ensures { λ r. ⌜ r .next ≡ Line ⌝ }
     ensures { λ r. ⌜ (r .length ≡ run .length) × (r .from ≡ run .from) ⌝ }
@@ -53,12 +56,12 @@ fn play_slots(store: &mut [u64; 65536], run: Run, out: &mut [u8; 65536]) -> Run
 
 // Plays the lines that a chunk has, and keeps the bytes after the last.
 fn play_chunk(
-    store: &mut [u64; 65536],
-    links: &mut [u64; 68],
+    store: &mut [u64; store::LENGTH],
+    links: &mut [u64; LINKS],
     text: &mut [u8],
     chunk: &[u8],
     run: Run,
-    out: &mut [u8; 65536],
+    out: &mut [u8; BUFFER],
 ) -> Run
     requires { ⌜ length (now text) ≡ mostKept ⌝ }
     requires { ⌜ run .next ≡ Line ⌝ }
@@ -81,10 +84,10 @@ fn play_chunk(
 // Reads chunk after chunk and plays it. A proved loop has to end, and nothing says that the input does: so the reads are counted,
 // down from a number that no run uses up.
 fn play_all(
-    store: &mut [u64; 65536],
-    links: &mut [u64; 68],
+    store: &mut [u64; store::LENGTH],
+    links: &mut [u64; LINKS],
     text: &mut [u8],
-    out: &mut [u8; 65536],
+    out: &mut [u8; BUFFER],
 ) -> Run
     requires { ⌜ length (now text) ≡ mostKept ⌝ }
     ensures { λ r. ⌜ r .next ≡ Line ⌝ }
@@ -115,11 +118,11 @@ fn play_all(
 
 // A last line that lacks its line feed gets it.
 fn play_last(
-    store: &mut [u64; 65536],
-    links: &mut [u64; 68],
+    store: &mut [u64; store::LENGTH],
+    links: &mut [u64; LINKS],
     text: &mut [u8],
     run: Run,
-    out: &mut [u8; 65536],
+    out: &mut [u8; BUFFER],
 ) -> Run
     requires { ⌜ length (now text) ≡ mostKept ⌝ }
     requires { ⌜ run .next ≡ Line ⌝ }
@@ -134,7 +137,12 @@ fn play_last(
 }
 
 // The end of the script, and of the listing.
-fn play_end(store: &mut [u64; 65536], links: &[u64; 68], run: Run, out: &mut [u8; 65536])
+fn play_end(
+    store: &mut [u64; store::LENGTH],
+    links: &[u64; LINKS],
+    run: Run,
+    out: &mut [u8; BUFFER],
+)
     requires { ⌜ run .at ≤ bufferLength ⌝ }
 {
     let phase = run.phase;
@@ -144,10 +152,10 @@ fn play_end(store: &mut [u64; 65536], links: &[u64; 68], run: Run, out: &mut [u8
 }
 
 fn main() {
-    let mut store = [0u64; 65536];
-    let mut links = [0u64; 68];
-    let mut text = [0u8; 256];
-    let mut out = [0u8; 65536];
+    let mut store = [0u64; store::LENGTH];
+    let mut links = [0u64; LINKS];
+    let mut text = [0u8; KEPT];
+    let mut out = [0u8; BUFFER];
     let run = play_all(&mut store, &mut links, &mut text, &mut out);
     let last = play_last(&mut store, &mut links, &mut text, run, &mut out);
     play_end(&mut store, &links, last, &mut out);

@@ -2,6 +2,8 @@
 use offer_rules::Offered;
 use open_rules::Outcome;
 use script_line::Line;
+use script_line::MOST_NUMBERS;
+use script_listing::BUFFER;
 ghost use mathlib.Core.Path.{_≡_};
 ghost use Prim.Native.Nat.{_+_, _≤_};
 ghost use lib.ListN.{length};
@@ -10,6 +12,7 @@ ghost use Rattle.open_rules.specs.Open.{openAnswer, openStore};
 ghost use Rattle.offer_rules.specs.Offer.{offerAnswer, offerStore};
 ghost use Rattle.script_listing.specs.Buffer.{lastForLine};
 ghost use Rattle.script_listing.specs.Listing.{refusedLine, badLine};
+ghost use Rattle.script_line.specs.Line.{mostNumbers};
 ghost use Rattle.script_answer.specs.Answer.{requestIn, openOut, offerOut, askedStore, askedOut, asksOf};
 
 pub fn put_refused(out: &mut [u8], at: usize, number: u64, place: u64) -> usize
@@ -21,7 +24,7 @@ pub fn put_refused(out: &mut [u8], at: usize, number: u64, place: u64) -> usize
     script_listing::line(out, at, b"refused", &refusal)
 }
 
-pub fn put_bad(out: &mut [u8; 65536], at: usize, count: u64) -> usize
+pub fn put_bad(out: &mut [u8; BUFFER], at: usize, count: u64) -> usize
     requires { ⌜ at ≤ lastForLine ⌝ }
     ensures { λ r. ⌜ r ≡ at + length (badLine count) ⌝ }
     ensures { λ _. ⌜ now (out .exit) ≡ putAt (now (out .entry)) at (badLine count) ⌝ }
@@ -31,10 +34,10 @@ pub fn put_bad(out: &mut [u8; 65536], at: usize, count: u64) -> usize
 }
 
 fn open(
-    store: &mut [u64; 65536],
+    store: &mut [u64; store::LENGTH],
     numbers: &[u64],
     hops: usize,
-    out: &mut [u8; 65536],
+    out: &mut [u8; BUFFER],
     at: usize,
 ) -> usize
     requires { ⌜ 4 + hops ≤ length (now numbers) ⌝ }
@@ -65,10 +68,10 @@ fn open(
 }
 
 fn offer(
-    store: &mut [u64; 65536],
+    store: &mut [u64; store::LENGTH],
     channel: u64,
     packets: u64,
-    out: &mut [u8; 65536],
+    out: &mut [u8; BUFFER],
     at: usize,
 ) -> usize
     requires { ⌜ at ≤ lastForLine ⌝ }
@@ -89,14 +92,14 @@ fn offer(
 
 // Does what a line asks, but for the slots of a `tick`: where the listing goes on.
 pub fn answer(
-    store: &mut [u64; 65536],
+    store: &mut [u64; store::LENGTH],
     asked: Line,
-    numbers: &[u64; 128],
+    numbers: &[u64; MOST_NUMBERS],
     count: u64,
-    out: &mut [u8; 65536],
+    out: &mut [u8; BUFFER],
     at: usize,
 ) -> usize
-    requires { ⌜ asksOf asked ≤ 128 ⌝ }
+    requires { ⌜ asksOf asked ≤ mostNumbers ⌝ }
     requires { ⌜ at ≤ lastForLine ⌝ }
     ensures { λ r. ⌜ r ≡ at + length (askedOut (now (store .entry)) asked (now (numbers .entry)) count) ⌝ }
     ensures { λ _. ⌜ now (store .exit) ≡ askedStore (now (store .entry)) asked (now (numbers .entry)) ⌝ }

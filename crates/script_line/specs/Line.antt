@@ -52,6 +52,10 @@ asked word count =
 abbrev pub mostBytes : ℕ
 mostBytes = 255
 
+-- places in a buffer for its numbers, of which each takes at least two bytes
+abbrev pub mostNumbers : ℕ
+mostNumbers = 128
+
 -- what a line asks, and the numbers that it gives, as far as they read
 unfoldable pub readLine : Text → Line
 readLine line =

@@ -5,7 +5,7 @@ ghost use lib.ListN.{length};
 ghost use Prim.Native.Nat.{_≤_};
 ghost use Rattle.text_decimal.specs.Put.{putAt};
 ghost use Rattle.text_decimal.specs.Word.{firstWord};
-ghost use Rattle.script_line.specs.Line.{words, behind, leading, asked as Line·asked, same, mostBytes};
+ghost use Rattle.script_line.specs.Line.{words, behind, leading, asked as Line·asked, same, mostBytes, mostNumbers};
 ghost use Rattle.script_line.specs.Line.{readLine, numbersOf, isLink};
 ghost use Rattle.script_line.specs.Count.{countOf};
 
@@ -23,6 +23,11 @@ enum Count {
     Broken,
     All(usize),
 }
+
+// A line has at most so many bytes, and a buffer for its numbers so many places: each number takes at least two bytes.
+const MOST_BYTES: usize = 255;
+
+pub const MOST_NUMBERS: usize = 128;
 
 // Where the first word of a line ends.
 fn word_end(line: &[u8]) -> usize
@@ -91,10 +96,10 @@ fn asked(line: &[u8], count: usize) -> Line
     Line::Bad
 }
 
-// The numbers behind the first word, up to the first word that is none. A line of at most 255 bytes has at most 127.
+// The numbers behind the first word, up to the first word that is none.
 fn read_numbers(line: &[u8], numbers: &mut [u64]) -> Count
     requires { ⌜ length (now line) ≤ mostBytes ⌝ }
-    requires { ⌜ 128 ≤ length (now numbers) ⌝ }
+    requires { ⌜ mostNumbers ≤ length (now numbers) ⌝ }
     ensures { λ r. ⌜ r ≡ countOf (behind (words (now (line .entry)))) ⌝ }
     ensures { λ _. ⌜ now (numbers .exit) ≡ putAt (now (numbers .entry)) 0 (leading (behind (words (now (line .entry))))) ⌝ }
 {
@@ -112,11 +117,11 @@ fn read_numbers(line: &[u8], numbers: &mut [u64]) -> Count
 }
 
 // What a line asks, and its numbers at the front of `numbers`, as far as they read.
-pub fn read(line: &[u8], numbers: &mut [u64; 128]) -> Line
+pub fn read(line: &[u8], numbers: &mut [u64; MOST_NUMBERS]) -> Line
     ensures { λ r. ⌜ r ≡ readLine (now (line .entry)) ⌝ }
     ensures { λ _. ⌜ now (numbers .exit) ≡ putAt (now (numbers .entry)) 0 (numbersOf (now (line .entry))) ⌝ }
 {
-    if line.len() > 255 {
+    if line.len() > MOST_BYTES {
         return Line::Bad;
     }
     let Count::All(n) = read_numbers(line, numbers) else {

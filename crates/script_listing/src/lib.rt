@@ -1,4 +1,5 @@
 // The lines of the listing, written into a buffer from a place on. Each call says where the line ends.
+use kinds::Route;
 ghost use mathlib.Core.Path.{_≡_};
 ghost use Prim.Native.Nat.{_+_, _*_, _≤_};
 ghost use mathlib.Core.List.{_∷_};
@@ -10,7 +11,9 @@ ghost use Rattle.script_listing.specs.Listing.{lineOf, sendLinesIn, shar
 
 const LINE_FEED: u8 = b'\n';
 
-// The last place in the buffer of bytes from which all that a slot writes fits into it.
+// The buffer of bytes that a listing goes through, and the last place in it from which all that a slot writes fits into it.
+pub const BUFFER: usize = 65_536;
+
 pub const LAST_FOR_SLOT: usize = 63_776;
 
 fn put_text(out: &mut [u8], at: usize, text: &[u8]) -> usize
@@ -95,9 +98,9 @@ fn put_share(out: &mut [u8], at: usize, response: u64, delay: u64, reserved: u64
 fn put_shares(
     out: &mut [u8],
     at: usize,
-    responses: &[u64; 8],
-    delays: &[u64; 8],
-    reserved: &[u64; 8],
+    responses: &[u64; Route::MOST_HOPS],
+    delays: &[u64; Route::MOST_HOPS],
+    reserved: &[u64; Route::MOST_HOPS],
     hops: usize,
 ) -> usize
     requires { ⌜ hops ≤ 8 ⌝ }
@@ -121,9 +124,9 @@ pub fn channel(
     out: &mut [u8],
     at: usize,
     channel: u64,
-    responses: &[u64; 8],
-    delays: &[u64; 8],
-    reserved: &[u64; 8],
+    responses: &[u64; Route::MOST_HOPS],
+    delays: &[u64; Route::MOST_HOPS],
+    reserved: &[u64; Route::MOST_HOPS],
     hops: usize,
 ) -> usize
     requires { ⌜ hops ≤ 8 ⌝ }

@@ -1,5 +1,8 @@
 // What a line of a script does, and what it writes into the listing.
+use kinds::Network;
 use script_line::Line;
+use script_line::MOST_NUMBERS;
+use script_listing::BUFFER;
 use setup::SetUp;
 ghost use mathlib.Core.Path.{_≡_};
 ghost use mathlib.Core.List.{[]};
@@ -7,6 +10,7 @@ ghost use Prim.Native.Nat.{_+_, _≤_, min};
 ghost use lib.ListN.{length};
 ghost use Rattle.text_decimal.specs.Put.{putAt};
 ghost use Rattle.script_listing.specs.Buffer.{lastForLine, lastForSlot};
+ghost use Rattle.script_line.specs.Line.{mostNumbers};
 ghost use Rattle.script_answer.specs.Answer.{asksOf};
 ghost use Rattle.script_play.specs.Play.{nextOf, answered, started, mostKept, linksLength, kept, counted};
 ghost use Rattle.script_play.specs.Play.{linkHeard, linksHeard, played, playedLinks, ended};
@@ -32,11 +36,13 @@ pub struct Played {
     pub at: usize,
 }
 
-// More than 16 links are refused, whichever they are: the first 17 are kept.
-const KEPT: usize = 17;
+// More links than a network may have are refused, whichever they are: one more is kept. A link is four numbers.
+const KEPT: usize = Network::MOST_LINKS + 1;
+
+pub const LINKS: usize = 4 * KEPT;
 
 // What comes after a line of a running room.
-fn next_of(asked: Line, numbers: &[u64; 128]) -> Next
+fn next_of(asked: Line, numbers: &[u64; MOST_NUMBERS]) -> Next
     ensures { λ r. ⌜ r ≡ nextOf asked (now (numbers .entry)) ⌝ }
 {
     if let Line::Tick = asked {
@@ -47,14 +53,14 @@ fn next_of(asked: Line, numbers: &[u64; 128]) -> Next
 
 // A line of a running room, but for the slots of a `tick`.
 fn answer_line(
-    store: &mut [u64; 65536],
+    store: &mut [u64; store::LENGTH],
     asked: Line,
-    numbers: &[u64; 128],
+    numbers: &[u64; MOST_NUMBERS],
     count: u64,
-    out: &mut [u8; 65536],
+    out: &mut [u8; BUFFER],
     at: usize,
 ) -> Played
-    requires { ⌜ asksOf asked ≤ 128 ⌝ }
+    requires { ⌜ asksOf asked ≤ mostNumbers ⌝ }
     requires { ⌜ at ≤ lastForLine ⌝ }
     ensures { λ r. ⌜ r ≡ playedAt at (answered (now (store .entry)) asked (now (numbers .entry)) count) ⌝ }
     ensures { λ _. ⌜ now (store .exit) ≡ answered (now (store .entry)) asked (now (numbers .entry)) count .store ⌝ }
@@ -81,7 +87,13 @@ fn looked_at(n: usize) -> usize
 }
 
 // Sets up the network of the `link` lines so far.
-fn set_up(store: &mut [u64; 65536], links: &[u64], n: usize, out: &mut [u8], at: usize) -> Played
+fn set_up(
+    store: &mut [u64; store::LENGTH],
+    links: &[u64],
+    n: usize,
+    out: &mut [u8],
+    at: usize,
+) -> Played
     requires { ⌜ length (now links) ≡ linksLength ⌝ }
     requires { ⌜ at + 50 ≤ length (now out) ⌝ }
     ensures { λ r. ⌜ r ≡ playedAt at (started (now (store .entry)) (now (links .entry)) n) ⌝ }
@@ -130,12 +142,12 @@ fn keep(links: &mut [u64], n: usize, numbers: &[u64]) -> usize
 
 // A `link` line before set-up.
 fn hear_link(
-    links: &mut [u64; 68],
+    links: &mut [u64; LINKS],
     n: usize,
     asked: Line,
-    numbers: &[u64; 128],
+    numbers: &[u64; MOST_NUMBERS],
     count: u64,
-    out: &mut [u8; 65536],
+    out: &mut [u8; BUFFER],
     at: usize,
 ) -> Played
     requires { ⌜ at ≤ lastForLine ⌝ }
@@ -161,12 +173,12 @@ fn hear_link(
 
 // Plays a line, the `count`th of the script, but for the slots of a `tick`.
 pub fn line(
-    store: &mut [u64; 65536],
-    links: &mut [u64; 68],
+    store: &mut [u64; store::LENGTH],
+    links: &mut [u64; LINKS],
     phase: Phase,
     text: &[u8],
     count: u64,
-    out: &mut [u8; 65536],
+    out: &mut [u8; BUFFER],
     at: usize,
 ) -> Played
     requires { ⌜ at ≤ lastForSlot ⌝ }
@@ -177,7 +189,7 @@ pub fn line(
     ensures { λ _. ⌜ now (out .exit) ≡ putAt (now (out .entry)) at
         (played phase (now (store .entry)) (now (links .entry)) (now (text .entry)) count .out) ⌝ }
 {
-    let mut numbers = [0u64; 128];
+    let mut numbers = [0u64; MOST_NUMBERS];
     let asked = script_line::read(text, &mut numbers);
     match phase {
         Phase::Over => Played {
@@ -202,10 +214,10 @@ pub fn line(
 
 // The end of the script: the network is set up if no line has done so. Where the listing ends.
 pub fn finish(
-    store: &mut [u64; 65536],
-    links: &[u64; 68],
+    store: &mut [u64; store::LENGTH],
+    links: &[u64; LINKS],
     phase: Phase,
-    out: &mut [u8; 65536],
+    out: &mut [u8; BUFFER],
     at: usize,
 ) -> usize
     requires { ⌜ at ≤ lastForSlot ⌝ }

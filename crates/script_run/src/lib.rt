@@ -1,5 +1,7 @@
 // A run of the program, step by step: a script comes in chunks, the listing goes out through a buffer. What a step writes, and
 // then what is still to be written, is what was to be written before it; so what all steps write is the listing.
+use script_listing::BUFFER;
+use script_play::LINKS;
 use script_play::Next;
 use script_play::Phase;
 ghost use mathlib.Core.Path.{_≡_};
@@ -34,7 +36,7 @@ fn count(lines: u64) -> u64
 }
 
 // Slots of a `tick`, all of them or as many as the buffer has room for.
-pub fn slots(store: &mut [u64; 65536], left: u64, run: Run, out: &mut [u8; 65536]) -> Run
+pub fn slots(store: &mut [u64; store::LENGTH], left: u64, run: Run, out: &mut [u8; BUFFER]) -> Run
     requires { ⌜ run .next ≡ Slots left ⌝ }
     requires { ⌜ run .at ≤ lastForSlot ⌝ }
     ensures { λ r. ⌜ ((links : List ℕ) → (before : Text) → (rest : Text)
@@ -70,12 +72,12 @@ pub fn slots(store: &mut [u64; 65536], left: u64, run: Run, out: &mut [u8; 65536
 
 // The chunk's next line, or what the chunk has of it.
 pub fn line(
-    store: &mut [u64; 65536],
-    links: &mut [u64; 68],
+    store: &mut [u64; store::LENGTH],
+    links: &mut [u64; LINKS],
     text: &mut [u8],
     chunk: &[u8],
     run: Run,
-    out: &mut [u8; 65536],
+    out: &mut [u8; BUFFER],
 ) -> Run
     requires { ⌜ run .next ≡ Line ⌝ }
     requires { ⌜ length (now text) ≡ mostKept ⌝ }

@@ -1,5 +1,7 @@
 // A `tick` line: slots are run, one after the other, and their sends written. A tick may write more than the buffer holds, so it
 // is run piece by piece. Slots in which nothing can be sent are skipped, however many there are.
+use kinds::Network;
+use script_listing::BUFFER;
 use script_listing::LAST_FOR_SLOT;
 use store::head;
 ghost use mathlib.Core.Path.{_≡_};
@@ -25,7 +27,7 @@ pub struct Ticked {
 }
 
 // One slot, and after one that sent nothing those in which nothing can be sent; a slot that is refused is the last.
-fn step(store: &mut [u64; 65536], left: u64, out: &mut [u8; 65536], at: usize) -> Stepped
+fn step(store: &mut [u64; store::LENGTH], left: u64, out: &mut [u8; BUFFER], at: usize) -> Stepped
     requires { ⌜ 0 < left ⌝ }
     requires { ⌜ at ≤ lastForSlot ⌝ }
     ensures { λ r. ⌜ tickOut (now (store .entry)) left
@@ -35,7 +37,7 @@ fn step(store: &mut [u64; 65536], left: u64, out: &mut [u8; 65536], at: usize) -
     ensures { λ r. ⌜ (at ≤ r .at) × (r .at ≤ bufferLength) ⌝ }
     ensures { λ r. ⌜ r .left < left ⌝ }
 {
-    let mut sends = [0u64; 80];
+    let mut sends = [0u64; 5 * Network::MOST_LINKS];
     let mut number: u64 = 0;
     let mut place: u64 = 0;
     let count = slot::run(store, &mut sends, &mut number, &mut place);
@@ -62,7 +64,12 @@ fn step(store: &mut [u64; 65536], left: u64, out: &mut [u8; 65536], at: usize) -
 
 // Runs slots until the tick is over or the buffer is full. What this writes, and then what the rest of the tick writes, is what
 // the tick writes.
-pub fn tick(store: &mut [u64; 65536], slots: u64, out: &mut [u8; 65536], at: usize) -> Ticked
+pub fn tick(
+    store: &mut [u64; store::LENGTH],
+    slots: u64,
+    out: &mut [u8; BUFFER],
+    at: usize,
+) -> Ticked
     requires { ⌜ at ≤ lastForSlot ⌝ }
     ensures { λ r. ⌜ tickOut (now (store .entry)) slots
         ≡ partOf (now (out .exit)) at (r .at) ++ restOut (r .over) (now (store .exit)) (r .left) ⌝ }

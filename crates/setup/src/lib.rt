@@ -16,7 +16,7 @@ pub fn set_up(store: &mut [u64], links: &[u64]) -> SetUp
     ensures { λ _. ⌜ now (store .exit) ≡ setUpStore (now (store .entry)) (now (links .entry)) ⌝ }
 {
     let n = setup_list::links_in(links);
-    if !Network::links_fit(n as u64) {
+    if !Network::links_fit(n) {
         return SetUp::Refused(16, 0);
     }
     let bad = setup_list::bad_link(links, n);

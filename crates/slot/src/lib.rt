@@ -1,5 +1,6 @@
 // Running a slot: document 01, "A slot". First it is found out whether the slot runs; then the sends go into the lent output, and
 // the picked packets move on.
+use kinds::Network;
 use slot_rules::Turn;
 ghost use mathlib.Core.Path.{_≡_};
 ghost use lib.ListN.{length};
@@ -14,7 +15,7 @@ pub fn run(store: &mut [u64], out: &mut [u64], number: &mut u64, place: &mut u64
     ensures { λ _. ⌜ now (number .exit) ≡ slotNumber (now (store .entry)) (length (now (out .entry))) ⌝ }
     ensures { λ _. ⌜ now (place .exit) ≡ slotPlace (now (store .entry)) (length (now (out .entry))) ⌝ }
 {
-    let mut picks = [0u64; 16];
+    let mut picks = [0u64; Network::MOST_LINKS];
     let turn = slot_checks::turn(store, out.len(), &mut picks);
     if let Turn::Refused(n, at) = turn {
         *number = n;

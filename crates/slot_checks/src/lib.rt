@@ -1,4 +1,5 @@
 // Whether a slot runs: document 01, "A slot", and refusals 17, 14 and 15. Nothing is written but the picks.
+use kinds::Network;
 use kinds::Slot;
 use slot_rules::Turn;
 use store::channel;
@@ -16,7 +17,7 @@ ghost use Rattle.slot_keeps.specs.Room.{leaves as leavesAt, takesPacket, roomAf
 ghost use Rattle.slot_checks.specs.Left.{picksLeft};
 
 // Whether a packet of channel `x` leaves place `j` of its route in this slot.
-fn leaves(store: &[u64], picks: &[u64; 16], x: usize, j: usize) -> bool
+fn leaves(store: &[u64], picks: &[u64; Network::MOST_LINKS], x: usize, j: usize) -> bool
     requires { ⌜ soundOf (now store) ≡ true ⌝ }
     requires { ⌜ now picks ≡ picksTo (now store) (linksOf (now store)) ⌝ }
     requires { ⌜ IsChannel (now store) x ⌝ }
@@ -32,7 +33,7 @@ fn leaves(store: &[u64], picks: &[u64; 16], x: usize, j: usize) -> bool
 }
 
 // Whether one more may come there: fewer are held than are reserved, or one leaves.
-fn takes_packet(store: &[u64], picks: &[u64; 16], x: usize, j: usize) -> bool
+fn takes_packet(store: &[u64], picks: &[u64; Network::MOST_LINKS], x: usize, j: usize) -> bool
     requires { ⌜ soundOf (now store) ≡ true ⌝ }
     requires { ⌜ now picks ≡ picksTo (now store) (linksOf (now store)) ⌝ }
     requires { ⌜ IsChannel (now store) x ⌝ }
@@ -46,7 +47,7 @@ fn takes_packet(store: &[u64], picks: &[u64; 16], x: usize, j: usize) -> bool
 }
 
 // Whether the packet that link `l` picked is on its last link, or has room on the next one.
-fn room_after(store: &[u64], picks: &[u64; 16], l: usize) -> bool
+fn room_after(store: &[u64], picks: &[u64; Network::MOST_LINKS], l: usize) -> bool
     requires { ⌜ soundOf (now store) ≡ true ⌝ }
     requires { ⌜ now picks ≡ picksTo (now store) (linksOf (now store)) ⌝ }
     requires { ⌜ l < linksOf (now store) ⌝ }
@@ -65,7 +66,7 @@ fn room_after(store: &[u64], picks: &[u64; 16], l: usize) -> bool
 }
 
 // 17, looked at last: whether every picked packet has room where it goes.
-fn fits(store: &[u64], picks: &[u64; 16]) -> bool
+fn fits(store: &[u64], picks: &[u64; Network::MOST_LINKS]) -> bool
     requires { ⌜ soundOf (now store) ≡ true ⌝ }
     requires { ⌜ now picks ≡ picksTo (now store) (linksOf (now store)) ⌝ }
     ensures { λ r. ⌜ r ≡ every (roomAfter (now (store .entry))) (linksOf (now (store .entry))) ⌝ }
@@ -83,7 +84,7 @@ fn fits(store: &[u64], picks: &[u64; 16]) -> bool
 
 // How a slot ends, where the output has `size` numbers: checks 17, 14, 15 and 17, in this order. Once the first three are passed,
 // `picks` are what the links have picked.
-pub fn turn(store: &[u64], size: usize, picks: &mut [u64; 16]) -> Turn
+pub fn turn(store: &[u64], size: usize, picks: &mut [u64; Network::MOST_LINKS]) -> Turn
     ensures { λ r. ⌜ r ≡ slotTurn (now (store .entry)) size ⌝ }
     ensures { λ _. ⌜ now (picks .exit) ≡ picksLeft (now (store .entry)) size (now (picks .entry)) ⌝ }
 {

@@ -1,5 +1,6 @@
 // What a slot does once every link has picked: the sends go into the lent output, and the picked packets move on. Document 01,
 // "A slot".
+use kinds::Network;
 use store::channel;
 use store::head;
 use store::link;
@@ -16,7 +17,7 @@ ghost use Rattle.slot_pick.specs.Picks.{picksTo};
 ghost use Rattle.slot_move.specs.Sends.{sendPut, mostPackets};
 
 // The position of the row that link `l` picked, counted from 1; 0 for none.
-pub fn pick(picks: &[u64; 16], l: usize) -> usize
+pub fn pick(picks: &[u64; Network::MOST_LINKS], l: usize) -> usize
     requires { ⌜ l < mostLinks ⌝ }
     ensures { λ r. ⌜ r ≡ numberAt (now (picks .entry)) l ⌝ }
 {
@@ -46,7 +47,7 @@ fn put_send(store: &[u64], out: &mut [u64], n: usize, slot: u64, l: usize, k: us
 }
 
 // The sends, in link order, at the front of the output; how many there are.
-pub fn report(store: &[u64], out: &mut [u64], picks: &[u64; 16]) -> usize
+pub fn report(store: &[u64], out: &mut [u64], picks: &[u64; Network::MOST_LINKS]) -> usize
     requires { ⌜ soundOf (now store) ≡ true ⌝ }
     requires { ⌜ now picks ≡ picksTo (now store) (linksOf (now store)) ⌝ }
     requires { ⌜ 5 * linksOf (now store) ≤ length (now out) ⌝ }
@@ -85,7 +86,7 @@ fn advance(store: &mut [u64], l: usize, k: usize)
 }
 
 // The picked packets have moved on, and the clock has risen by one.
-pub fn move_on(store: &mut [u64], picks: &[u64; 16])
+pub fn move_on(store: &mut [u64], picks: &[u64; Network::MOST_LINKS])
     requires { ⌜ soundOf (now store) ≡ true ⌝ }
     requires { ⌜ now picks ≡ picksTo (now store) (linksOf (now store)) ⌝ }
     requires { ⌜ clockOf (now store) < endSlot ⌝ }

@@ -1,4 +1,5 @@
 // Which packet each link picks in a slot: document 01, "A slot". Nothing is written.
+use kinds::Network;
 use store::channel;
 use store::head;
 use store::link;
@@ -91,12 +92,12 @@ pub fn pick(store: &[u64], l: usize) -> usize
 }
 
 // What each link picks; 0 where there is no link.
-pub fn picks(store: &[u64]) -> [u64; 16]
+pub fn picks(store: &[u64]) -> [u64; Network::MOST_LINKS]
     requires { ⌜ soundOf (now store) ≡ true ⌝ }
     ensures { λ r. ⌜ r ≡ picksTo (now (store .entry)) (linksOf (now (store .entry))) ⌝ }
 {
     let links = head::links(store);
-    let mut picked = [0u64; 16];
+    let mut picked = [0u64; Network::MOST_LINKS];
     let mut l: usize = 0;
     while l < links {
         picked[l] = pick(store, l) as u64;

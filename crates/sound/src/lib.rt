@@ -21,10 +21,10 @@ fn counts_fit(store: &[u64]) -> bool
     requires { ⌜ Long (now store) ⌝ }
     ensures { λ r. ⌜ r ≡ countsFit (now (store .entry)) ⌝ }
 {
-    if !Network::links_fit(head::links(store) as u64) {
+    if !Network::links_fit(head::links(store)) {
         return false;
     }
-    if !Network::channels_fit(head::channels(store) as u64) {
+    if !Network::channels_fit(head::channels(store)) {
         return false;
     }
     Slot::is_slot(head::clock(store))

@@ -40,7 +40,7 @@ fn channel_fits(store: &[u64], x: usize) -> bool
         return false;
     };
     let hops = channel::hops(store, x);
-    let CheckedRoute::Good(_) = Route::new(hops as u64) else {
+    let CheckedRoute::Good(_) = Route::new(hops) else {
         return false;
     };
     route_passes(store, x, hops)

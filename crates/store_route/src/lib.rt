@@ -1,5 +1,6 @@
 // A route over the network: document 01's checks 3, 4 and 5, and what a channel has on a link of its route. A route is read
 // from `numbers`, from place `at` on: a lent one from 0, a stored one from its place in the store.
+use kinds::Network;
 use store::channel;
 use store::head;
 use store::link;
@@ -38,7 +39,7 @@ pub fn repeated_link(numbers: &[u64], at: usize, n: usize) -> usize
     ensures { λ r. ⌜ r ≡ firstNot (isNew (from (now (numbers .entry)) at)) n ⌝ }
 {
     // 1 where a link stands at a place before
-    let mut seen = [0u64; 16];
+    let mut seen = [0u64; Network::MOST_LINKS];
     let mut j: usize = 0;
     while j < n {
         let l = numbers[at + j] as usize;
@@ -94,7 +95,7 @@ pub fn passes(store: &[u64], numbers: &[u64], at: usize, n: usize) -> bool
 {
     let links = head::links(store);
     // 1 where a link stands at a place before
-    let mut met = [0u64; 16];
+    let mut met = [0u64; Network::MOST_LINKS];
     let mut j: usize = 0;
     while j < n {
         let l = numbers[at + j] as usize;

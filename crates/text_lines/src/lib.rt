@@ -13,10 +13,11 @@ pub struct Gathered {
     pub whole: bool,
 }
 
-const KEPT: usize = 256;
+// So many bytes of a line are kept.
+pub const KEPT: usize = 256;
 
 // Puts the chunk's bytes from `from` on, up to the next line feed or the end, behind the `before` bytes of the line that came
-// before. A line's first 256 bytes are kept.
+// before.
 pub fn gather(chunk: &[u8], from: usize, line: &mut [u8], before: usize) -> Gathered
     requires { ⌜ length (now line) ≡ mostKept ⌝ }
     requires { ⌜ before ≤ mostKept ⌝ }

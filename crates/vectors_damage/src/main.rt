@@ -198,7 +198,7 @@ fn show(store: &mut [u64]) {
 }
 
 fn main() {
-    let mut store = [0u64; 65536];
+    let mut store = [0u64; store::LENGTH];
     let _answer = setup::set_up(&mut store, &[0, 1, 0, 64, 1, 2, 0, 64]);
     show(&mut store);
     fill(&mut store);

@@ -1,5 +1,6 @@
 // Worked responses: each line is a question to the response-time calculation and the library's answer.
 // tests/response.rs works out every answer again from the question that stands on its line.
+use kinds::Link;
 use libc::STDOUT_FILENO;
 use response::Answer;
 use response::Reply;
@@ -112,7 +113,7 @@ fn small_links() {
 fn equal_rows(rows: usize, c: u64, p: u64)
     requires { ⌜ rows ≤ 33 ⌝ }
 {
-    let mut table = [0u64; 99];
+    let mut table = [0u64; 3 * Link::MOST_ROWS + 3];
     let mut at: usize = 0;
     while at < 97 {
         table[at] = c;
