@@ -14,7 +14,7 @@ use Rattle.open_rules.specs.Open.{openOutcome, openAnswer, answerOn, valuesOf a
 use Rattle.offer_rules.specs.declared.Offered.the-variants.{Accepted, Refused}
 use Rattle.offer_rules.specs.Offer.{offerTime, offerChecks, offerAnswer, valuesOf as valuesOffered}
 use Rattle.figures.specs.Asked.Lent.{lent}
-use Rattle.figures.specs.Asked.{besides17, outcome, opening, heard, offering}
+use Rattle.figures.specs.Asked.{besides17, opening, offering}
 
 module _ {A : Type 0} (refused : (number place : ℕ) → A) (passed : A) where
   same-besides : (checks : List Check) → ((place : ℕ) → firstFailed refused checks passed ≡ refused 17 place → ⊥)

@@ -10,7 +10,7 @@ use Rattle.store.specs.Layout.{Store, channelsOf, bufferOf, rowsOf}
 use Rattle.folds.proofs.Folds.{First, first-is, every-at}
 use Rattle.store.proofs.Laws.Sound.{RowsAre, RowFor, Before}
 use Rattle.open_rules.specs.Request.{Request, hops, link}
-use Rattle.open_rules.specs.Shares.{takenOf, reserved}
+use Rattle.open_rules.specs.Shares.{takenOf}
 use Rattle.open_rules.specs.Join.{noLater, rowsBefore}
 use Rattle.open_rules.proofs.Laws.Facts.{Joined}
 use Rattle.open_keeps.proofs.Insert.{Inserted, inserted-old, inserted-map, inserted-sum}
@@ -19,6 +19,7 @@ use Rattle.open_keeps.proofs.New.{new-held, new-reserved}
 use Rattle.open_keeps.proofs.Rows.{Entry, entry, entry-is, entryDelay, entryReserved, Here, Holds, Follows, Rows}
 use Rattle.open_keeps.proofs.Rows.{rows-here, here-rows, rows-joined, row-again}
 use Rattle.open_keeps.proofs.Old.{old-delay, old-rows, old-taken}
+use Rattle.store.specs.Amounts.{reservedAlong}
 
 -- no later, and a larger number
 before-larger : (d x d′ x′ : ℕ) → d ≤ d′ → x < x′ → Before d x d′ x′
@@ -89,12 +90,12 @@ module _ {w w′ : Store} {q : Request} {d : ℕ → ℕ} (o : Opened w w′ q d
         let e : d j < entryDelay w (entry w l at) = leb-false _ _ (first .fails i) in
         inl (omega (arith, kept-delay at i, o .after .delay-is j h))
 
-    taken : sumTo (λ k. entryReserved w′ (entry w′ l k)) (suc n) ≡ takenOf w l + reserved w (q .c) (q .p) (q .b) (link q) d j
+    taken : sumTo (λ k. entryReserved w′ (entry w′ l k)) (suc n) ≡ takenOf w l + reservedAlong w (q .c) (q .p) (q .b) (link q) d j
     taken =
         inserted-sum _ _ n at (entryReserved w′ new) (inserted-map inserted (entryReserved w′))
         ∙ rw (old-taken (was-sound o) (open-keeps o) old, new-reserved o j h)
 
-    pub join-rows : takenOf w l + reserved w (q .c) (q .p) (q .b) (link q) d j ≤ bufferOf w l → RowsAre w′ l
+    pub join-rows : takenOf w l + reservedAlong w (q .c) (q .p) (q .b) (link q) d j ≤ bufferOf w l → RowsAre w′ l
     join-rows fits =
         here-rows (omega (arith, joined .rows))
         (rows-joined inserted new-here new-holds above below

@@ -6,11 +6,10 @@ use mathlib.Core.Bool.{true}
 use native.Mathlib.Omega.{arith}
 use borrow.Author.Tests.{le-leb}
 use Rattle.store.specs.Layout.{Store, ring, channelsOf, hopsOf, routeOf, endOf}
-use Rattle.store.specs.Amounts.{acceptedOf, deliveredOf, enteredOf, heldOf, reservedOf}
+use Rattle.store.specs.Amounts.{acceptedOf, deliveredOf, enteredOf, heldOf, reservedOf, reservedAlong}
 use Rattle.store.specs.Sound.{delivered, inOrder}
 use Rattle.store.proofs.Laws.Sound.{ChannelIs}
 use Rattle.open_rules.specs.Request.{Request, hops, link}
-use Rattle.open_rules.specs.Shares.{reserved}
 use Rattle.open_keeps.proofs.Kept.{Opened, links-few, route-few, network-kept}
 use Rattle.store_same.proofs.Same.{good-same}
 
@@ -36,8 +35,8 @@ module _ {w w′ : Store} {q : Request} {d : ℕ → ℕ} (o : Opened w w′ q d
   new-held j h = omega (arith, new-entered j h)
 
   pub new-reserved : (j : ℕ) → j < hops q
-      → reservedOf w′ (channelsOf w) j ≡ reserved w (q .c) (q .p) (q .b) (link q) d j
-  unfolding reservedOf reserved
+      → reservedOf w′ (channelsOf w) j ≡ reservedAlong w (q .c) (q .p) (q .b) (link q) d j
+  unfolding reservedOf reservedAlong
   new-reserved zero h = rw (o .after .c-is, o .after .b-is)
   new-reserved (suc j) h =
       let i : j < hops q = omega arith in

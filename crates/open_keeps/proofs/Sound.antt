@@ -9,7 +9,7 @@ use Rattle.store.specs.Layout.{Store, linksOf, channelsOf, bufferOf, rowsOf}
 use Rattle.store.specs.Sound.{soundOf}
 use Rattle.store.proofs.Laws.Sound.{Counts, LinkIs, ChannelIs, RowsAre, is-sound}
 use Rattle.open_rules.specs.Request.{Request, hops, link}
-use Rattle.open_rules.specs.Shares.{takenOf, reserved}
+use Rattle.open_rules.specs.Shares.{takenOf}
 use Rattle.open_rules.proofs.Laws.Facts.{Early, After}
 use Rattle.open_keeps.proofs.Kept.{Opened, was-sound, links-few, clock-kept, links-kept, network-kept, open-keeps}
 use Rattle.open_keeps.proofs.New.{new-channel}
@@ -18,6 +18,7 @@ use Rattle.open_keeps.proofs.Away.{away-count, away-rows}
 use Rattle.open_keeps.proofs.Join.{join-rows}
 use Rattle.open_keeps.proofs.Each.{each-link, each-channel}
 use Rattle.open_keeps.proofs.Listed.{all-listed}
+use Rattle.store.specs.Amounts.{reservedAlong}
 
 module _ {w w′ : Store} {q : Request} {d : ℕ → ℕ} (o : Opened w w′ q d) where
   counts : Counts w′
@@ -49,7 +50,7 @@ module _ {w w′ : Store} {q : Request} {d : ℕ → ℕ} (o : Opened w w′ q d
 pub open-sound : (w w′ : Store) (q : Request) (d : ℕ → ℕ) → Early w q → After w w′ (channelsOf w) q d
     → ((j : ℕ) → j < hops q → 1 ≤ d j)
     → ((j : ℕ) → j < hops q → d j ≤ q .p)
-    → ((j : ℕ) → j < hops q → takenOf w (link q j) + reserved w (q .c) (q .p) (q .b) (link q) d j ≤ bufferOf w (link q j))
+    → ((j : ℕ) → j < hops q → takenOf w (link q j) + reservedAlong w (q .c) (q .p) (q .b) (link q) d j ≤ bufferOf w (link q j))
     → soundOf w′ ≡ true
 open-sound w w′ q d early after least most fits =
     let o : Opened w w′ q d = record { early = early; after = after } in

@@ -8,13 +8,12 @@ use Rattle.response.specs.Trials.{tried, response}
 use Rattle.folds.specs.Folds.{every, firstNot, sumTo}
 use Rattle.store.specs.Layout.{Store, withDelay, withRows, withBuffer, withLinks, withFrom, withTo}
 use Rattle.store.specs.Route.{joins}
-use Rattle.store.specs.Amounts.{reservedOf}
+use Rattle.store.specs.Amounts.{reservedOf, reservedAlong}
 use Rattle.checks.specs.Checks.{firstFailed}
 use Rattle.open_rules.specs.declared.Outcome.{Outcome}
 use Rattle.open_rules.specs.declared.Outcome.the-variants.{Accepted, Refused}
 use Rattle.open_rules.specs.Request.{Request}
 use Rattle.open_rules.specs.Search.{rowsTo, smallest}
-use Rattle.open_rules.specs.Shares.{reserved}
 use Rattle.open_rules.specs.Join.{withRow, rowsBefore}
 use Rattle.open_rules.specs.Refusal.{earlyChecks, lateChecks}
 
@@ -34,11 +33,11 @@ outcome w q = firstFailed Refused (take 3 (lateChecks w q)) (Accepted 0)
 
 -- a channel that fills the buffer, and one that asks for a packet more: B × C
 full : outcome network (asked 32 100 40 2) ≡ Accepted 0
-unfolding outcome asked firstFailed every firstNot sumTo reserved reservedOf network rowsTo smallest response tried need start packets work ceil
+unfolding outcome asked firstFailed every firstNot sumTo reservedAlong reservedOf network rowsTo smallest response tried need start packets work ceil
 full = refl
 
 over : outcome network (asked 13 100 40 5) ≡ Refused 10 0
-unfolding outcome asked firstFailed every firstNot sumTo reserved reservedOf network rowsTo smallest response tried need start packets work ceil
+unfolding outcome asked firstFailed every firstNot sumTo reservedAlong reservedOf network rowsTo smallest response tried need start packets work ceil
 over = refl
 
 -- two links in a row

@@ -1,4 +1,5 @@
 pub mod Request
+pub mod Asked
 pub mod Search
 pub mod Shares
 pub mod Join

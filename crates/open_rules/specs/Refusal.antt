@@ -15,8 +15,9 @@ use Rattle.open_rules.specs.declared.Outcome.{Outcome}
 use Rattle.open_rules.specs.declared.Outcome.the-variants.{Refused}
 use Rattle.open_rules.specs.Request.{Request, hops, link}
 use Rattle.open_rules.specs.Search.{responds, responses}
-use Rattle.open_rules.specs.Shares.{delays, reserved, fitsBuffer}
+use Rattle.open_rules.specs.Shares.{delays, fitsBuffer}
 use Rattle.open_rules.specs.Join.{channelWritten, rowsJoined}
+use Rattle.store.specs.Amounts.{reservedAlong}
 
 -- The numbers per link that an open works out.
 abbrev pub responsesOf : Store → Request → (j : ℕ) → ℕ
@@ -26,7 +27,7 @@ abbrev pub delaysOf : Store → Request → (j : ℕ) → ℕ
 delaysOf w q = delays (q .p) (q .d) (hops q) (responsesOf w q)
 
 abbrev pub reservedFor : Store → Request → (j : ℕ) → ℕ
-reservedFor w q = reserved w (q .c) (q .p) (q .b) (link q) (delaysOf w q)
+reservedFor w q = reservedAlong w (q .c) (q .p) (q .b) (link q) (delaysOf w q)
 
 -- "All links are changed together": the store with the new channel, its row on each link of its route, and one channel more
 unfoldable pub opened : Store → Request → Store

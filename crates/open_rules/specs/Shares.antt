@@ -4,9 +4,8 @@ use mathlib.Core.Bool.{Bool}
 use mathlib.Core.List.{List}
 use lib.Dec.{leb}
 use lib.ListN.{set, replicate}
-use Rattle.store.specs.Layout.{Store, rowsOf, bufferOf, horizonOf}
+use Rattle.store.specs.Layout.{Store, rowsOf, bufferOf}
 use Rattle.folds.specs.Folds.{sumTo}
-use Rattle.store.specs.Amounts.{firstReserved, laterReserved}
 use Rattle.store.specs.Sound.{rowReservedOf}
 
 -- "each link's share is r + (D − S) × r / S, the quotient rounded down", where "S be the sum of all r"
@@ -16,11 +15,6 @@ shares d n responses j = responses j + (d - sumTo responses n) * responses j / s
 -- "and its delay d is the smaller of share and p"
 abbrev pub delays : (p d n : ℕ) → (responses : ℕ → ℕ) → (j : ℕ) → ℕ
 delays p d n responses j = min (shares d n responses j) p
-
--- "Reserved packets: on the first link B × C. On a later link .. with h and d' the horizon and delay of the link before."
-unfoldable pub reserved : Store → (c p b : ℕ) → (route delays : ℕ → ℕ) → (j : ℕ) → ℕ
-reserved w c p b route delays zero = firstReserved c b
-reserved w c p b route delays (suc j) = laterReserved c p (horizonOf w (route j)) (delays j) (delays (suc j))
 
 -- what is reserved on link l already; and 10, "a link's reserved packets would exceed its buffer": at place j they do not
 abbrev pub takenOf : Store → (l : ℕ) → ℕ

@@ -16,7 +16,7 @@ use Rattle.schedule.proofs.Times.{in-stretch, on-first}
 use Rattle.schedule.proofs.Messages.{ended-more}
 use Rattle.store.specs.Layout.{Store, ring, clockOf, cOf, pOf, bOf, hopsOf, messagesOf, delayOf, sentOf}
 use Rattle.folds.specs.Folds.{sumTo}
-use Rattle.store.specs.Amounts.{reservedOf, deliveredOf, enteredOf, heldOf}
+use Rattle.store.specs.Amounts.{reservedOf, deliveredOf, enteredOf, heldOf, reservedAlong}
 use Rattle.store.specs.Sound.{inOrder}
 use Rattle.folds.proofs.Folds.{sum-most}
 use Rattle.store.proofs.Laws.Sound.{both, ChannelIs}
@@ -97,7 +97,7 @@ module _ {w : Store} {all : Accepted} (s : Seen w all) {x packets : ℕ} (p : Pa
 
     -- at most B with the new one are held at the first place
     held-small : heldOf w x 0 + packets ≤ reservedOf w x 0
-    unfolding reservedOf enteredOf
+    unfolding reservedOf reservedAlong enteredOf
     held-small =
         let d : ℕ = sumTo (delayOf w x) 1 in
         let short = sum-most (delayOf w x) (pOf w x) 1 (λ j h. k .delay-most j (omega (arith, k .hops-least))) in

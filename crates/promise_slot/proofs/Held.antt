@@ -6,7 +6,7 @@ use Rattle.schedule.specs.Messages.{ended}
 use Rattle.schedule.proofs.Times.{on-later}
 use Rattle.store.specs.Layout.{Store, clockOf, cOf, pOf, hopsOf, routeOf, delayOf, sentOf, horizonOf, IsChannel}
 use Rattle.folds.specs.Folds.{sumTo}
-use Rattle.store.specs.Amounts.{reservedOf, enteredOf, heldOf}
+use Rattle.store.specs.Amounts.{reservedOf, enteredOf, heldOf, reservedAlong}
 use Rattle.store_same.proofs.Settled.{Settled, channel-kept}
 use Rattle.store_same.proofs.Numbers.{SameNumbers, settled-numbers}
 use Rattle.slot_rules.specs.Slot.{moved}
@@ -49,7 +49,7 @@ module _ {w : Store} {all : Accepted} (s : Seen w all) where
         (omega (arith, due), omega (arith, early))
 
     pub held-later : heldOf (moved w) x (suc j) ≤ reservedOf w x (suc j)
-    unfolding enteredOf reservedOf
+    unfolding enteredOf reservedOf reservedAlong
     held-later =
         let p : ℕ = pOf w x in
         let before : ℕ = horizonOf w (routeOf w x j) in

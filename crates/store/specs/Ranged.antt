@@ -1,5 +1,5 @@
 -- What working with a channel's numbers asks of them, so that no sum comes near 2 ^ 64 and no link is read that is not there.
-use Prim.Native.Nat.{ℕ, _≤_, _<_}
+use Prim.Native.Nat.{ℕ, _+_, _*_, _≤_, _<_}
 use Rattle.kinds.specs.Ranges.{mostLinks, mostHorizon, mostChannels, mostHops, mostC, mostP, mostB}
 use mathlib.Core.Path.{_≡_}
 use mathlib.Core.Bool.{true}
@@ -19,6 +19,21 @@ pub record Ranged (w : Store) (x : ℕ) : Type 0 where
   pub delay-most : (j : ℕ) → j < hopsOf w x → delayOf w x j ≤ pOf w x
   pub route-most : (j : ℕ) → j < hopsOf w x → routeOf w x j < mostLinks
   pub horizon-most : (j : ℕ) → j < hopsOf w x → horizonOf w (routeOf w x j) ≤ mostHorizon
+
+-- What is reserved on a later link is worked out from numbers like these: p, the horizon and the delay of the link before, the
+-- delay here.
+pub record Near (p h d′ d : ℕ) : Type 0 where
+  pub p-least : 1 ≤ p
+  pub p-most : p ≤ mostP
+  pub horizon-most : h ≤ mostHorizon
+  pub before-least : 1 ≤ d′
+  pub before-most : d′ ≤ mostP
+  pub here-least : 1 ≤ d
+  pub here-most : d ≤ mostP
+
+-- what is reserved at any place is at most this
+abbrev pub mostReserved : ℕ
+mostReserved = mostC * (1 + (mostHorizon + mostP + mostP))
 
 -- What the rows of links may rely on, and the parts of soundness that are looked at after it.
 pub record Fit (w : Store) : Type 0 where

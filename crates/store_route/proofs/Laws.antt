@@ -2,20 +2,21 @@
 use Prim.Native.Nat.{ℕ, _+_, _-_, _*_, _/_, _≤_, _<_}
 use mathlib.Core.Path.{_≡_, sym}
 use mathlib.Core.Bool.{true, false}
-use native.Mathlib.Nat.{le-trans, mul-le-mul, div-le-self}
+use native.Mathlib.Nat.{le-trans, div-le-self}
 use native.Mathlib.Omega.{arith}
-use Rattle.kinds.specs.Ranges.{mostLinks, mostHorizon, mostC, mostP, mostB}
+use Rattle.kinds.specs.Ranges.{mostLinks, mostHorizon, mostC, mostP}
 use lib.Dec.{eqb, ltb}
-use mir.Syntax.{w32, w64}
+use mir.Syntax.{w64}
 use mir.Val.{Fits}
 use borrow.Author.Tests.{le-ltb, lt-ltb, ltb-true}
-use Rattle.store.specs.Layout.{Store, linksOf, fromOf, toOf, messagesOf, endOf, bOf, cOf, pOf, hopsOf, routeOf, delayOf, horizonOf}
-use Rattle.store.specs.Amounts.{reservedOf, enteredOf}
+use Rattle.store.specs.Layout.{Store, linksOf, fromOf, toOf, messagesOf, endOf, bOf, cOf, pOf, hopsOf, routeOf, delayOf}
+use Rattle.store.specs.Layout.{horizonOf}
+use Rattle.store.specs.Amounts.{laterReserved, reservedOf, enteredOf}
 use Rattle.folds.specs.Folds.{every}
 use Rattle.store.specs.Route.{exists, joins}
 use Rattle.folds.proofs.Folds.{every-at}
-use Rattle.store.proofs.Laws.Amounts.{reserved-first, reserved-later, joins-later, entered-first}
-use Rattle.store.specs.Ranged.{Ranged}
+use Rattle.store.proofs.Laws.Amounts.{first-most, later-most, reserved-first, reserved-later, joins-later, entered-first}
+use Rattle.store.specs.Ranged.{Ranged, Near}
 
 -- a link number held against the number of links as it was read
 module _ (w : Store) (n links : ℕ) (e : links ≡ linksOf w) where
@@ -34,70 +35,58 @@ pub joined : (w : Store) (route : ℕ → ℕ) (j : ℕ) → 0 < j → (a b : �
     → eqb a b ≡ joins w route j
 joined w route j h a b ea eb = rw (ea, eb) (sym (joins-later w route j h))
 
+-- what is reserved on a later link: 32 bits are enough for what is divided, and 64 for the rest
+module _ {p h d′ d : ℕ} (n : Near p h d′ d) where
+  abbrev ahead : ℕ
+  ahead = h + d′ + d - 2
+
+  ahead-most : ahead ≤ mostHorizon + mostP + mostP
+  ahead-most = omega (arith, n .horizon-most, n .before-most, n .here-most)
+
+  pub times-fit : Fits w64 (ahead / p)
+  times-fit = record { fits = omega (arith, ahead-most, div-le-self ahead p) }
+
+  pub more-fit : Fits w64 (1 + ahead / p)
+  more-fit = record { fits = omega (arith, ahead-most, div-le-self ahead p) }
+
+  pub product-fits : (c : ℕ) → c ≤ mostC → Fits w64 (c * (1 + ahead / p))
+  product-fits c m =
+      record { fits = omega (arith, later-most c m p h d′ d (n .horizon-most) (n .before-most) (n .here-most)) }
+
+-- the numbers of a channel in range, as the code reads them
 module _ (w : Store) (x : ℕ) (g : Ranged w x) where
-  pub first-fits : (b k : ℕ) → b ≡ bOf w x → k ≡ cOf w x → Fits w64 (b * k)
-  first-fits b k eb ek =
-      let hb : b ≤ mostB = rw eb (g .b-most) in
-      let hk : k ≤ mostC = rw ek (g .c-most) in
-      record { fits = omega (arith, mul-le-mul hb hk) }
+  pub first-fits : (b c : ℕ) → b ≡ bOf w x → c ≡ cOf w x → Fits w64 (b * c)
+  first-fits b c eb ec =
+      let e : b * c ≡ bOf w x * cOf w x = rw (eb, ec) in
+      record { fits = omega (arith, first-most (cOf w x) (g .c-most) (bOf w x) (g .b-most), e) }
 
-  pub packets-bound : (k : ℕ) → k ≡ cOf w x → k ≤ mostC
-  packets-bound k e = rw e (g .c-most)
+  module _ (j : ℕ) (l : j < hopsOf w x) where
+    before : j - 1 < hopsOf w x
+    before = omega arith
 
-  pub delay-bounds : (i : ℕ) → i < hopsOf w x → (d : ℕ) → d ≡ delayOf w x i → (1 ≤ d) × (d ≤ mostP)
-  delay-bounds i h d e = (rw e (g .delay-least i h), rw e (le-trans (g .delay-most i h) (g .p-most)))
+    pub route-bound : (r : ℕ) → r ≡ routeOf w x (j - 1) → r < mostLinks
+    route-bound r e = rw e (g .route-most (j - 1) before)
 
-  place-before : (j : ℕ) → j < hopsOf w x → j - 1 < hopsOf w x
-  place-before j h = omega arith
+    pub near : (r h d′ d p : ℕ) → r ≡ routeOf w x (j - 1) → h ≡ horizonOf w r → d′ ≡ delayOf w x (j - 1) → d ≡ delayOf w x j
+        → p ≡ pOf w x → Near p h d′ d
+    near r h d′ d p er eh ed′ ed ep = record {
+      p-least = rw ep (g .p-least);
+      p-most = rw ep (g .p-most);
+      horizon-most = rw (eh, er) (g .horizon-most (j - 1) before);
+      before-least = rw ed′ (g .delay-least (j - 1) before);
+      before-most = rw ed′ (le-trans (g .delay-most (j - 1) before) (g .p-most));
+      here-least = rw ed (g .delay-least j l);
+      here-most = rw ed (le-trans (g .delay-most j l) (g .p-most));
+    }
 
-  -- a place after the first: the link before it, and what that link may send early
-  module _ (j : ℕ) (l : j < hopsOf w x) (r : ℕ) (er : r ≡ routeOf w x (j - 1)) where
-    pub route-bound : r < mostLinks
-    route-bound = rw er (g .route-most (j - 1) (place-before j l))
-
-    pub early : (h d : ℕ) → h ≡ horizonOf w r → d ≡ delayOf w x (j - 1) → (h ≤ mostHorizon) × (1 ≤ d) × (d ≤ mostP)
-    early h d eh ed =
-        let b = delay-bounds (j - 1) (place-before j l) d ed in
-        (rw (eh, er) (g .horizon-most (j - 1) (place-before j l)), b .0, b .1)
-
--- what may be ahead of a row, in slots: 32 bits are enough, and 64 for what is reserved
-pub ahead-most : (h d′ d : ℕ) → h ≤ mostHorizon → d′ ≤ mostP → d ≤ mostP → h + d′ + d - 2 ≤ mostHorizon + mostP + mostP
-ahead-most h d′ d u y z = omega arith
-
-module _ (h d′ : ℕ) (a : (h ≤ mostHorizon) × (1 ≤ d′) × (d′ ≤ mostP)) where
-  pub early-fits : Fits w64 (h + d′)
-  early-fits = record { fits = omega arith }
-
-  module _ (d : ℕ) (b : (1 ≤ d) × (d ≤ mostP)) where
-    pub ahead-fits : Fits w64 (h + d′ + d)
-    ahead-fits = record { fits = omega arith }
-
-    pub ahead-least : 2 ≤ h + d′ + d
-    ahead-least = omega arith
-
-    pub slots-fit : Fits w32 (h + d′ + d - 2)
-    slots-fit = record { fits = omega arith }
-
-module _ (u p : ℕ) (b : u ≤ mostHorizon + mostP + mostP) where
-  pub times-fit : Fits w64 (u / p)
-  times-fit = record { fits = omega (arith, div-le-self u p) }
-
-  pub more-fit : Fits w64 (1 + u / p)
-  more-fit = record { fits = omega (arith, div-le-self u p) }
-
-  pub product-fits : (k : ℕ) → k ≤ mostC → Fits w64 (k * (1 + u / p))
-  product-fits k a =
-      let h : 1 + u / p ≤ 1 + (mostHorizon + mostP + mostP) = omega (arith, div-le-self u p) in
-      record { fits = omega (arith, mul-le-mul a h) }
-
--- the code's product is the definition's
+-- what is worked out of them is the definition's
 module _ (w : Store) (x j : ℕ) where
-  pub reserved-on-first : j ≡ 0 → (b k : ℕ) → b ≡ bOf w x → k ≡ cOf w x → b * k ≡ reservedOf w x j
-  reserved-on-first z b k eb ek = rw (eb, ek) (sym (reserved-first w x j z))
+  pub reserved-on-first : j ≡ 0 → (b c : ℕ) → b ≡ bOf w x → c ≡ cOf w x → b * c ≡ reservedOf w x j
+  reserved-on-first z b c eb ec = rw (eb, ec) (sym (reserved-first w x j z))
 
-  pub reserved-on-later : 0 < j → (r h d′ d p k : ℕ) → r ≡ routeOf w x (j - 1) → h ≡ horizonOf w r → d′ ≡ delayOf w x (j - 1)
-      → d ≡ delayOf w x j → p ≡ pOf w x → k ≡ cOf w x → k * (1 + (h + d′ + d - 2) / p) ≡ reservedOf w x j
-  reserved-on-later z r h d′ d p k er eh ed′ ed ep ek = rw (ek, eh, er, ed′, ed, ep) (sym (reserved-later w x j z))
+  pub reserved-on-later : 0 < j → (r h d′ d p c : ℕ) → r ≡ routeOf w x (j - 1) → h ≡ horizonOf w r → d′ ≡ delayOf w x (j - 1)
+      → d ≡ delayOf w x j → p ≡ pOf w x → c ≡ cOf w x → laterReserved c p h d′ d ≡ reservedOf w x j
+  reserved-on-later z r h d′ d p c er eh ed′ ed ep ec = rw (ec, eh, er, ed′, ed, ep) (sym (reserved-later w x j z))
 
   pub end-is : (m n : ℕ) → j ≡ 0 → m ≡ messagesOf w x → n ≡ endOf w x m → n ≡ enteredOf w x j
   end-is m n z em en = rw (en, em) (sym (entered-first w x j z))

@@ -8,12 +8,12 @@ ghost use mathlib.Core.Path.{_≡_};
 ghost use mathlib.Core.Bool.{true};
 ghost use Prim.Native.Nat.{_+_, _≤_, _<_};
 ghost use lib.ListN.{length};
-ghost use Rattle.kinds.specs.Ranges.{mostLinks, mostChannels, mostHops};
+ghost use Rattle.kinds.specs.Ranges.{mostLinks, mostChannels, mostHops, mostC};
 ghost use Rattle.store.specs.Layout.{Long, linksOf, hopsOf, sentOf};
 ghost use Rattle.folds.specs.Folds.{every, firstNot};
 ghost use Rattle.store.specs.Route.{from, exists, isNew, joins, Known, routePasses};
-ghost use Rattle.store.specs.Amounts.{reservedOf, enteredOf, heldOf};
-ghost use Rattle.store.specs.Ranged.{Ranged};
+ghost use Rattle.store.specs.Amounts.{laterReserved, reservedOf, enteredOf, heldOf};
+ghost use Rattle.store.specs.Ranged.{Ranged, Near};
 
 // 3: the first place with a link number that does not exist, or `n`.
 pub fn unknown_link(store: &[u64], numbers: &[u64], at: usize, n: usize) -> usize
@@ -114,22 +114,33 @@ pub fn passes(store: &[u64], numbers: &[u64], at: usize, n: usize) -> bool
     true
 }
 
+// The packets to be reserved on a link that is not the first of a route: `horizon` and `before` are the horizon and the delay of the
+// link before it, `here` is the delay on it.
+pub fn later_reserved(c: u64, p: u64, horizon: u64, before: u64, here: u64) -> u64
+    requires { ⌜ c ≤ mostC ⌝ }
+    requires { ⌜ Near p horizon before here ⌝ }
+    ensures { λ r. ⌜ r ≡ laterReserved c p horizon before here ⌝ }
+{
+    let ahead = horizon + before + here - 2;
+    // both fit 32 bits, where a division is cheaper
+    let times = ahead as u32 / p as u32;
+    c * (1 + times as u64)
+}
+
 // The packets reserved for a channel at place `j` of its route.
 pub fn reserved(store: &[u64], x: usize, j: usize) -> u64
     requires { ⌜ Ranged (now store) x ⌝ }
     requires { ⌜ j < hopsOf (now store) x ⌝ }
     ensures { λ r. ⌜ r ≡ reservedOf (now (store .entry)) x j ⌝ }
 {
-    let packets = channel::c(store, x);
+    let c = channel::c(store, x);
     if j == 0 {
-        return channel::b(store, x) * packets;
+        return channel::b(store, x) * c;
     }
-    let before = channel::route(store, x, j - 1);
-    let early = link::horizon(store, before) + channel::delay(store, x, j - 1);
-    let ahead = early + channel::delay(store, x, j) - 2;
-    // both fit 32 bits, where a division is cheaper
-    let times = ahead as u32 / channel::p(store, x) as u32;
-    packets * (1 + times as u64)
+    let horizon = link::horizon(store, channel::route(store, x, j - 1));
+    let before = channel::delay(store, x, j - 1);
+    let here = channel::delay(store, x, j);
+    later_reserved(c, channel::p(store, x), horizon, before, here)
 }
 
 // The packets that have come to place `j` of a channel's route.

@@ -7,7 +7,7 @@ use Rattle.kinds.specs.Ranges.{mostLinks, mostHops}
 use Rattle.store.specs.Layout.{Store, numberAt, channelAt, recordLength, ring, linksOf, channelsOf, fromOf, toOf, horizonOf}
 use Rattle.store.specs.Layout.{bufferOf, cOf, pOf, dOf, bOf, hopsOf, messagesOf, routeOf, delayOf, sentOf, timeOf, endOf, cAt}
 use Rattle.store.specs.Layout.{pAt, dAt, bAt, hopsAt, messagesAt, routeAt, delayAt, sentAt, timeAt, endAt, IsChannel}
-use Rattle.store.specs.Amounts.{reservedOf, acceptedOf, deliveredOf, enteredOf, heldOf}
+use Rattle.store.specs.Amounts.{reservedOf, acceptedOf, deliveredOf, enteredOf, heldOf, reservedAlong}
 use Rattle.store.specs.Sound.{delivered, follows, inOrder}
 use Rattle.store.proofs.Laws.Sound.{Good345, ChannelIs}
 
@@ -112,7 +112,7 @@ module _ {w w′ : Store} {x : ℕ} (same : SameRecord w w′ x) where
   -- Of a sound record in a sound network: what is reserved, and that it stays sound.
   module _ (network : SameNetwork w w′) (few : linksOf w ≤ mostLinks) (k : ChannelIs w x) where
     pub reserved-same : (j : ℕ) → j < hopsOf w x → reservedOf w′ x j ≡ reservedOf w x j
-    unfolding reservedOf
+    unfolding reservedOf reservedAlong
     reserved-same zero h = rw (c-same, b-same)
     reserved-same (suc j) h =
         let i : suc j < mostHops = omega (arith, k .hops-most) in

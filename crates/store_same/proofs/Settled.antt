@@ -12,7 +12,7 @@ use Rattle.store.specs.Layout.{rowsAt, rowChannelAt, rowPlaceAt, cAt, messagesA
 use Rattle.store.specs.Layout.{channelsOf, clockOf, rowsOf, rowChannelOf, rowPlaceOf, cOf, pOf, dOf, bOf, hopsOf, messagesOf}
 use Rattle.store.specs.Layout.{routeOf, delayOf, sentOf, timeOf, IsChannel}
 use Rattle.folds.specs.Folds.{sumTo}
-use Rattle.store.specs.Amounts.{reservedOf, acceptedOf, enteredOf, heldOf}
+use Rattle.store.specs.Amounts.{reservedOf, acceptedOf, enteredOf, heldOf, reservedAlong}
 use Rattle.store.specs.Sound.{inOrder, rowDelayOf, rowReservedOf}
 use Rattle.folds.proofs.Folds.{sum-mono}
 use Rattle.store.proofs.Laws.Sound.{LinkIs, ChannelIs, RowIs, Before, RowsAre, RowFor, Sound}
@@ -95,7 +95,7 @@ module _ {w w′ : Store} (s : Settled w w′) where
   module _ (sound : Sound w) where
     module _ (x : ℕ) (h : IsChannel w x) where
       pub reserved-kept : (j : ℕ) → j < hopsOf w x → reservedOf w′ x j ≡ reservedOf w x j
-      unfolding reservedOf
+      unfolding reservedOf reservedAlong
       reserved-kept zero i = rw (c-kept x (few-channels sound x h), b-kept x (few-channels sound x h))
       reserved-kept (suc j) i =
           let a : x < mostChannels = few-channels sound x h in

@@ -2,18 +2,18 @@
 use Prim.Native.Nat.{ℕ, zero, suc, _≤_, _<_}
 use native.Mathlib.Nat.{le-trans}
 use native.Mathlib.Omega.{arith}
+use Rattle.store.specs.Ranged.{mostReserved}
 use Rattle.kinds.specs.Ranges.{mostP}
 use Rattle.response.specs.Need.{need}
 use Rattle.response.specs.Right.{Least}
 use Rattle.response.proofs.Laws.Trials.{found-least}
 use Rattle.folds.specs.Folds.{sumTo}
 use Rattle.store.specs.Layout.{Store, rowsOf}
-use Rattle.store.specs.Amounts.{mostReserved}
+use Rattle.store.specs.Amounts.{reservedAlong}
 use Rattle.store.proofs.Laws.Amounts.{first-most, later-most}
 use Rattle.store.proofs.Laws.Sound.{sound-is}
 use Rattle.open_rules.specs.Request.{Request, hops, link}
 use Rattle.open_rules.specs.Search.{rowsTo, position, hasResponse}
-use Rattle.open_rules.specs.Shares.{reserved}
 use Rattle.open_rules.specs.Refusal.{responsesOf, delaysOf, reservedFor}
 use Rattle.open_rules.proofs.Laws.Facts.{Early, Responds}
 use Rattle.open_rules.proofs.Laws.Search.{smallest-is}
@@ -26,7 +26,7 @@ module _ (w : Store) (q : Request) (e : Early w q) where
 
   -- what is reserved is bounded, whatever was found
   pub reserved-most : (j : ℕ) → j < hops q → reservedFor w q j ≤ mostReserved
-  unfolding reserved
+  unfolding reservedAlong
   reserved-most zero h = first-most _ (e .good .c-most) _ (e .good .b-most)
   reserved-most (suc j) h =
       let k = sound-is w (e .sound) .link _ (e .route .known j (omega arith)) in

@@ -7,8 +7,9 @@ use Rattle.kinds.specs.Ranges.{mostChannels, mostHops, mostRows, endSlot}
 use Rattle.kinds.proofs.Laws.{GoodChannel}
 use Rattle.response.specs.Right.{HasResponse}
 use Rattle.folds.specs.Folds.{sumTo}
-use Rattle.store.specs.Layout.{Store, numberAt, channelAt, channelsAt, rowsAt, rowsEnd, recordLength, channelsOf, clockOf, bufferOf, rowsOf}
-use Rattle.store.specs.Layout.{rowChannelOf, rowPlaceOf, cOf, pOf, dOf, bOf, hopsOf, messagesOf, routeOf, delayOf, sentOf, timeOf, endOf}
+use Rattle.store.specs.Layout.{Store, numberAt, channelAt, channelsAt, rowsAt, rowsEnd, recordLength, channelsOf, clockOf}
+use Rattle.store.specs.Layout.{bufferOf, rowsOf, rowChannelOf, rowPlaceOf, cOf, pOf, dOf, bOf, hopsOf, messagesOf, routeOf}
+use Rattle.store.specs.Layout.{delayOf, sentOf, timeOf, endOf}
 use Rattle.store.specs.Sound.{soundOf}
 use Rattle.store.proofs.Laws.Sound.{Good345}
 use Rattle.open_rules.specs.Request.{Request, hops, link}

@@ -6,7 +6,8 @@ use native.Mathlib.Omega.{arith}
 use Rattle.store.specs.Layout.{Store}
 use Rattle.folds.specs.Folds.{sumTo}
 use Rattle.folds.proofs.Folds.{sum-part, sum-mono, sum-same}
-use Rattle.open_rules.specs.Shares.{shares, delays, reserved}
+use Rattle.open_rules.specs.Shares.{shares, delays}
+use Rattle.store.specs.Amounts.{reservedAlong}
 
 pub total-least : (r : ℕ → ℕ) (n : ℕ) → 1 ≤ n → ((j : ℕ) → j < n → 1 ≤ r j) → 1 ≤ sumTo r n
 total-least r n h least = le-trans (least 0 h) (sum-part r n 0 h)
@@ -27,8 +28,8 @@ pub delays-same : (p d n : ℕ) (r r′ : ℕ → ℕ) → ((j : ℕ) → j < n 
 delays-same p d n r r′ h j l = rw (sum-same r r′ n h, h j l)
 
 pub reserved-same : (w : Store) (c p b n : ℕ) (route d d′ : ℕ → ℕ) → ((j : ℕ) → j < n → d j ≡ d′ j) → (j : ℕ) → j < n
-    → reserved w c p b route d j ≡ reserved w c p b route d′ j
-unfolding reserved
+    → reservedAlong w c p b route d j ≡ reservedAlong w c p b route d′ j
+unfolding reservedAlong
 reserved-same w c p b n route d d′ h zero l = refl
 reserved-same w c p b n route d d′ h (suc j) l = rw (h j (omega arith), h (suc j) l)
 

@@ -5,9 +5,8 @@ use native.Mathlib.Omega.{arith}
 use lib.ListN.{length, length-set}
 use Rattle.kinds.specs.Ranges.{mostChannels, mostHops}
 use Rattle.store.specs.Layout.{Store, Long, numberAt, channelAt, recordLength, cleared, cAt, pAt, dAt, bAt, hopsAt, messagesAt}
-use Rattle.store.specs.Layout.{routeAt, delayAt, sentAt, timeAt, endAt}
-use Rattle.store.specs.Layout.{cOf, pOf, dOf, bOf, hopsOf, messagesOf, routeOf, delayOf, sentOf, timeOf, endOf}
-use Rattle.store.specs.Layout.{withC, withP, withD, withB, withRoute}
+use Rattle.store.specs.Layout.{routeAt, delayAt, sentAt, timeAt, endAt, cOf, pOf, dOf, bOf, hopsOf, messagesOf, routeOf, delayOf}
+use Rattle.store.specs.Layout.{sentOf, timeOf, endOf, withC, withP, withD, withB, withRoute}
 use Rattle.store.proofs.Laws.Layout.{written, beside}
 use Rattle.folds.proofs.Folds.{below}
 use Rattle.store.proofs.Laws.Cleared.{cleared-length, cleared-beside, cleared-zero}

@@ -10,9 +10,10 @@ use lib.Dec.{leb}
 use mir.Syntax.{w64}
 use mir.Val.{Fits}
 use borrow.Author.Tests.{lt-ltb, le-leb, lt-leb}
+use Rattle.store.specs.Ranged.{mostReserved}
 use Rattle.kinds.specs.Ranges.{mostChannels, mostRows, mostHops}
 use Rattle.store.specs.Layout.{Store, bufferOf, rowsOf, rowChannelOf, rowPlaceOf, pOf, hopsOf, delayOf, sentOf, IsChannel}
-use Rattle.store.specs.Amounts.{mostReserved, reservedOf, enteredOf, heldOf}
+use Rattle.store.specs.Amounts.{reservedOf, enteredOf, heldOf, reservedAlong}
 use Rattle.store.specs.Sound.{rowStands, rowDelayOf, rowFollows, rowReservedOf, rowHolds, rowSound, rowsSound}
 use Rattle.store.specs.Ranged.{Ranged, Fit}
 use Rattle.folds.proofs.Folds.{Passing, passing-none, passing-more, passing-done, every-false}
@@ -22,7 +23,7 @@ use Rattle.store.proofs.Laws.Sound.{fit-ranged, fit-flows, row-is}
 use Rattle.sound_rows.specs.Rows.{stands, follows}
 
 reserved-most : (w : Store) (x j : ℕ) → Ranged w x → j < hopsOf w x → reservedOf w x j ≤ mostReserved
-unfolding reservedOf
+unfolding reservedOf reservedAlong
 reserved-most w x zero g h = first-most _ (g .c-most) _ (g .b-most)
 reserved-most w x (suc j) g h =
     let hj : j < hopsOf w x = omega arith in

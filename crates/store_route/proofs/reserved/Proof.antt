@@ -1,10 +1,16 @@
--- `store_route::reserved` meets its contract: the numbers read are in range, so that no sum wraps.
-use Prim.Native.Nat.{_-_}
+-- `store_route::reserved` meets its contract, by whether the place is the first.
 use native.Mathlib.Omega.{arith}
-use Rattle.store_route.proofs.Laws.{delay-bounds, route-bound, early, packets-bound, first-fits, early-fits, ahead-fits, ahead-least, slots-fit, ahead-most, times-fit, more-fit, product-fits, reserved-on-first, reserved-on-later}
 use borrow.Author.Needs.{needs}
+use Rattle.store_route.proofs.Laws.{route-bound, near, first-fits, reserved-on-first, reserved-on-later}
 use Rattle.store_route.proofs.reserved.Statement.{statement}
 use Rattle.store_route.proofs.reserved.Tie as tie
+
+-- where all numbers of a later place have been read, and before any was
+abbrev routed : tie.After-p → tie.After-route
+routed c = c .before .before .before .before
+
+abbrev start : tie.After-p → tie.Start
+start c = routed c .before .before .before .before
 
 c-requires : tie.Need-c-requires
 c-requires c κs = search needs
@@ -35,86 +41,27 @@ sub-delay c = search needs
 delay-requires : tie.Need-delay-requires
 delay-requires c κs = search needs
 
-add-early : tie.Need-add-early
-add-early c =
-    let a = c in
-    let r = a .before .before in
-    let s = r .before .before .before .before in
-    let e = early _ _ (s .pre .0) _ (s .pre .1) _ (r .route .ensures) _ _ (a .before .horizon .ensures) (a .delay .ensures) in
-    early-fits _ _ e
-
 delay-requires-2 : tie.Need-delay-requires-2
 delay-requires-2 c κs = search needs
-
-add-ahead : tie.Need-add-ahead
-add-ahead c =
-    let a = c .before in
-    let r = a .before .before in
-    let s = r .before .before .before .before in
-    let e = early _ _ (s .pre .0) _ (s .pre .1) _ (r .route .ensures) _ _ (a .before .horizon .ensures) (a .delay .ensures) in
-    let d = delay-bounds _ _ (s .pre .0) _ (s .pre .1) _ (c .delay2 .ensures) in
-    ahead-fits _ _ e _ d
-
-sub-ahead : tie.Need-sub-ahead
-sub-ahead c =
-    let a = c .before in
-    let r = a .before .before in
-    let s = r .before .before .before .before in
-    let e = early _ _ (s .pre .0) _ (s .pre .1) _ (r .route .ensures) _ _ (a .before .horizon .ensures) (a .delay .ensures) in
-    let d = delay-bounds _ _ (s .pre .0) _ (s .pre .1) _ (c .delay2 .ensures) in
-    ahead-least _ _ e _ d
-
-cast-times : tie.Need-cast-times
-cast-times c =
-    let a = c .before in
-    let r = a .before .before in
-    let s = r .before .before .before .before in
-    let e = early _ _ (s .pre .0) _ (s .pre .1) _ (r .route .ensures) _ _ (a .before .horizon .ensures) (a .delay .ensures) in
-    let d = delay-bounds _ _ (s .pre .0) _ (s .pre .1) _ (c .delay2 .ensures) in
-    slots-fit _ _ e _ d
 
 p-requires : tie.Need-p-requires
 p-requires c κs = search needs
 
-cast-times-2 : tie.Need-cast-times-2
-cast-times-2 c = search needs
-
-div-times : tie.Need-div-times
-div-times c = search needs
-
-cast-result : tie.Need-cast-result
-cast-result c =
-    let a = c .before .before in
-    let r = a .before .before in
-    let s = r .before .before .before .before in
-    let e = early _ _ (s .pre .0) _ (s .pre .1) _ (r .route .ensures) _ _ (a .before .horizon .ensures) (a .delay .ensures) in
-    let d = delay-bounds _ _ (s .pre .0) _ (s .pre .1) _ (c .before .delay2 .ensures) in
-    times-fit _ _ (ahead-most _ _ _ (e .0) (e .2) (d .1))
-
-add-result : tie.Need-add-result
-add-result c =
-    let a = c .before .before in
-    let r = a .before .before in
-    let s = r .before .before .before .before in
-    let e = early _ _ (s .pre .0) _ (s .pre .1) _ (r .route .ensures) _ _ (a .before .horizon .ensures) (a .delay .ensures) in
-    let d = delay-bounds _ _ (s .pre .0) _ (s .pre .1) _ (c .before .delay2 .ensures) in
-    more-fit _ _ (ahead-most _ _ _ (e .0) (e .2) (d .1))
-
-mul-result-2 : tie.Need-mul-result-2
-mul-result-2 c =
-    let a = c .before .before in
-    let r = a .before .before in
-    let s = r .before .before .before .before in
-    let e = early _ _ (s .pre .0) _ (s .pre .1) _ (r .route .ensures) _ _ (a .before .horizon .ensures) (a .delay .ensures) in
-    let d = delay-bounds _ _ (s .pre .0) _ (s .pre .1) _ (c .before .delay2 .ensures) in
-    product-fits _ _ (ahead-most _ _ _ (e .0) (e .2) (d .1)) _ (packets-bound _ _ (s .pre .0) _ (r .before .before .c .ensures))
+later-reserved-requires : tie.Need-later-reserved-requires
+later-reserved-requires c κs =
+    let s = start c in
+    let read = near _ _ (s .pre .0) _ (s .pre .1) _ _ _ _ _ (routed c .route .ensures) (c .before .before .before .horizon .ensures)
+    (c .before .before .delay .ensures) (c .before .delay2 .ensures) (c .p .ensures) in
+    (rw (routed c .before .before .c .ensures) (s .pre .0 .c-most), read)
 
 returns-2 : tie.Need-returns-2
 returns-2 c =
-    let a = c .before .before in
-    let r = a .before .before in
-    reserved-on-later _ _ _ (omega (arith, r .before .if1 .left)) _ _ _ _ _ _ (r .route .ensures) (a .before .horizon .ensures)
-    (a .delay .ensures) (c .before .delay2 .ensures) (c .p .ensures) (r .before .before .c .ensures)
+    let t = c .before in
+    let r = routed t in
+    rw (c .later-reserved .ensures)
+    (reserved-on-later _ _ _ (omega (arith, r .before .if1 .left)) _ _ _ _ _ _ (r .route .ensures)
+    (t .before .before .before .horizon .ensures) (t .before .before .delay .ensures) (t .before .delay2 .ensures) (t .p .ensures)
+    (r .before .before .c .ensures))
 
 pub reserved-spec : {M : Type 1} → statement M
 reserved-spec =
@@ -129,15 +76,7 @@ reserved-spec =
     horizon-requires
     sub-delay
     delay-requires
-    add-early
     delay-requires-2
-    add-ahead
-    sub-ahead
-    cast-times
     p-requires
-    cast-times-2
-    div-times
-    cast-result
-    add-result
-    mul-result-2
+    later-reserved-requires
     returns-2)
