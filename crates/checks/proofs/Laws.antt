@@ -91,19 +91,6 @@ module _ {A : Type 0} (refused : (number place : ℕ) → A) where
       go true h r = (h, r (rw (h, firstFailed) at e))
       go false h r = absurd (apart (z .number) (z .place) (rw (h, firstFailed) at e))
 
-  -- a refusal does not depend on what would have been answered
-  pub refused-any : (checks : List Check) (x : A) (n at : ℕ) (passed : A) → (refused n at ≡ x → ⊥)
-      → firstFailed refused checks x ≡ refused n at → firstFailed refused checks passed ≡ refused n at
-  unfolding firstFailed
-  refused-any [] x n at passed apart e = absurd (apart (sym e))
-  refused-any (z ∷ rest) x n at passed apart e = go (z .holds) refl (refused-any rest x n at passed apart)
-    where
-      go : (t : Bool) → z .holds ≡ t
-          → (firstFailed refused rest x ≡ refused n at → firstFailed refused rest passed ≡ refused n at)
-          → firstFailed refused (z ∷ rest) passed ≡ refused n at
-      go true h r = rw (h, firstFailed) (r (rw (h, firstFailed) at e))
-      go false h r = rw (h, firstFailed) (rw (h, firstFailed) at e)
-
   -- a refusal is that of one of the checks
   pub refused-one : (P : (number place : ℕ) → Type 0) → ((m n i at : ℕ) → refused m i ≡ refused n at → (m ≡ n) × (i ≡ at))
       → (checks : List Check) (passed : A) (number place : ℕ) → Each P checks → (refused number place ≡ passed → ⊥)
@@ -135,3 +122,21 @@ module _ {A : Type 0} (refused : (number place : ℕ) → A) where
           let n : x .number ≡ number = same (x .number) number (x .place) place (rw (h, firstFailed) at e) in
           let t : true ≡ false = sym (c .0 n) ∙ h in
           absurd (let z : _≡_ {A = ℕ} 0 1 = cc in omega arith)
+
+-- The same checks asked for another kind of answer: a refusal has the same number and place, whatever would have been answered.
+pub refused-as : {A B : Type 0} (refused : ℕ → ℕ → A) (refused′ : ℕ → ℕ → B)
+    → ((m n i at : ℕ) → refused m i ≡ refused n at → (m ≡ n) × (i ≡ at))
+    → (checks : List Check) (passed : A) (passed′ : B) (number place : ℕ) → (refused number place ≡ passed → ⊥)
+    → firstFailed refused checks passed ≡ refused number place → firstFailed refused′ checks passed′ ≡ refused′ number place
+unfolding firstFailed
+refused-as r r′ same [] passed passed′ number place apart e = absurd (apart (sym e))
+refused-as r r′ same (x ∷ rest) passed passed′ number place apart e =
+    go (x .holds) refl (refused-as r r′ same rest passed passed′ number place apart)
+  where
+    go : (t : Bool) → x .holds ≡ t
+        → (firstFailed r rest passed ≡ r number place → firstFailed r′ rest passed′ ≡ r′ number place)
+        → firstFailed r′ (x ∷ rest) passed′ ≡ r′ number place
+    go true h f = rw (h, firstFailed) (f (rw (h, firstFailed) at e))
+    go false h f =
+        let k = same (x .number) number (x .place) place (rw (h, firstFailed) at e) in
+        rw (h, firstFailed, k .0, k .1)

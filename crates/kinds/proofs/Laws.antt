@@ -153,6 +153,9 @@ module _ (c p d b : ℕ) where
   pub good-channel : {x : Channel} → newChannel c p d b ≡ channel.Good x → channelPasses c p d b ≡ true
   good-channel e = always _ (λ f. let z : _≡_ {A = ℕ} 0 1 = cc (channel-refused f) in omega arith)
 
+  pub channel-asked : {x : Channel} → newChannel c p d b ≡ channel.Good x → x ≡ record { c = c; p = p; d = d; b = b }
+  channel-asked e = let z = channel-good (good-channel e) in cc
+
   pub refused-channel : {n : ℕ} → newChannel c p d b ≡ channel.Refused n → channelPasses c p d b ≡ false
   refused-channel e = never _ (λ f. let z : _≡_ {A = ℕ} 0 1 = cc (channel-good f) in omega arith)
 
@@ -168,6 +171,9 @@ module _ (hops : ℕ) where
   -- and what an answer says of the check
   pub good-route : {x : Route} → newRoute hops ≡ route.Good x → inRangeHops hops ≡ true
   good-route e = always _ (λ f. let z : _≡_ {A = ℕ} 0 1 = cc (route-refused f) in omega arith)
+
+  pub route-asked : {x : Route} → newRoute hops ≡ route.Good x → x ≡ record { hops = hops }
+  route-asked e = let z = route-good (good-route e) in cc
 
   pub refused-route : {n : ℕ} → newRoute hops ≡ route.Refused n → inRangeHops hops ≡ false
   refused-route e = never _ (λ f. let z : _≡_ {A = ℕ} 0 1 = cc (route-good f) in omega arith)

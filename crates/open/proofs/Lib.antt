@@ -1,3 +1,4 @@
 mod Outcome
+mod Early
 mod Steps
 pub mod Laws

@@ -6,13 +6,14 @@ use mathlib.Core.List.{List, _∷_}
 use lib.ListN.{take, drop}
 use Rattle.store.specs.Layout.{Store, channelsOf}
 use Rattle.checks.specs.Checks.{Check, firstFailed}
-use Rattle.checks.proofs.Laws.{AllHold, failed-append, all-passed, fails-after, refused-any}
+use Rattle.checks.proofs.Laws.{AllHold, failed-append, all-passed, fails-after, refused-as}
+use Rattle.open_checks.specs.declared.Checked.{Checked}
+use Rattle.open_checks.specs.declared.Checked.the-variants as early
 use Rattle.open_rules.specs.declared.Outcome.{Outcome}
 use Rattle.open_rules.specs.declared.Outcome.the-variants.{Accepted, Refused}
 use Rattle.open_rules.specs.Request.{Request}
 use Rattle.open_rules.specs.Refusal.{earlyChecks, lateChecks, opened}
 use Rattle.open_rules.specs.Open.{refusal, answerOn, openOutcome, openAnswer, openStore}
-use Rattle.open_rules.proofs.Laws.Outcome.{refused-accepted}
 
 module _ (w : Store) (q : Request) where
   -- the answer has the outcome
@@ -45,12 +46,12 @@ module _ (w : Store) (q : Request) where
     store-accepted = rw (e, openStore)
 
   -- where one of 17, 14 and 1 to 7 fails
-  pub early-refused : (x number place : ℕ) → firstFailed Refused (earlyChecks w q) (Accepted x) ≡ Refused number place
-      → openOutcome w q ≡ Refused number place
+  pub early-refused : {passed : Checked} (number place : ℕ) → (early.Refused number place ≡ passed → ⊥)
+      → firstFailed early.Refused (earlyChecks w q) passed ≡ early.Refused number place → openOutcome w q ≡ Refused number place
   unfolding openOutcome
-  early-refused x number place e =
+  early-refused {passed} number place apart e =
       failed-append Refused (earlyChecks w q) (lateChecks w q) _
-      ∙ refused-any Refused (earlyChecks w q) _ number place _ (refused-accepted x number place) e
+      ∙ refused-as early.Refused Refused (λ m n i at f. ((cc), (cc))) (earlyChecks w q) passed _ number place apart e
 
   -- where they hold, the others decide
   module _ (early : AllHold (earlyChecks w q)) where

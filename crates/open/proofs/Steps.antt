@@ -10,11 +10,10 @@ use Rattle.store.specs.Layout.{Store, numberAt, channelsOf}
 use Rattle.folds.specs.Folds.{firstNot, sumTo}
 use Rattle.folds.proofs.Folds.{first-all, first-less, first-most, first-same, sum-same}
 use Rattle.checks.proofs.Laws.{AllHold, one-more}
-use Rattle.open_rules.specs.declared.Outcome.{Outcome}
 use Rattle.open_rules.specs.declared.Outcome.the-variants.{Accepted, Refused}
 use Rattle.open_rules.specs.Request.{Request, hops, link}
 use Rattle.open_rules.specs.Search.{responds}
-use Rattle.open_rules.specs.Shares.{delays, reserved, fitsBuffer, eight}
+use Rattle.open_rules.specs.Shares.{delays, fitsBuffer, eight}
 use Rattle.open_rules.specs.Refusal.{earlyChecks, lateChecks, responsesOf, delaysOf, reservedFor}
 use Rattle.open_rules.specs.Open.{openOutcome, openAnswer}
 use Rattle.open_rules.proofs.Laws.Facts.{Early, Responds}
@@ -22,6 +21,7 @@ use Rattle.open_rules.proofs.Laws.Passed.{early-is, responds-is}
 use Rattle.open_rules.proofs.Laws.Eight.{eight-at, eight-same}
 use Rattle.open_rules.proofs.Laws.Shares.{delays-same, reserved-same}
 use Rattle.open.proofs.Outcome.{answer-accepted, late-refused}
+use Rattle.store.specs.Amounts.{reservedAlong}
 
 -- numbers that are f at each place of the route
 abbrev Are : Request → (numbers : List ℕ) → (f : ℕ → ℕ) → Type 0
@@ -81,7 +81,7 @@ module _ (w : Store) (q : Request) (rs : List ℕ) (a : Answered w q rs) where
     pub delays-at : (j : ℕ) → j < hops q → numberAt ds j ≡ delaysOf w q j
     delays-at = are-at q ds (delaysOf w q) (facts .hops-most) delays-are
 
-    module _ (ss : List ℕ) (f : Are q ss (reserved w (q .c) (q .p) (q .b) (link q) (numberAt ds))) where
+    module _ (ss : List ℕ) (f : Are q ss (reservedAlong w (q .c) (q .p) (q .b) (link q) (numberAt ds))) where
       pub reserved-are : Are q ss (reservedFor w q)
       reserved-are = f ∙ eight-same _ _ (hops q) (reserved-same w (q .c) (q .p) (q .b) (hops q) (link q) _ _ delays-at)
 
@@ -101,8 +101,8 @@ module _ (w : Store) (q : Request) (rs : List ℕ) (a : Answered w q rs) where
         past-10 h = one-more (lateChecks w q) 2 refl late (first-all _ _ _ full-is h)
 
 -- a yes, with the numbers of each link beside it
-pub accepted-is : (w : Store) (q : Request) {o : Outcome} {rs ds ss : List ℕ} → o ≡ Accepted (channelsOf w)
+pub accepted-is : (w : Store) (q : Request) {x : ℕ} {rs ds ss : List ℕ} → x ≡ channelsOf w
     → openOutcome w q ≡ Accepted (channelsOf w)
     → Are q rs (responsesOf w q) → Are q ds (delaysOf w q) → Are q ss (reservedFor w q)
-    → record { outcome = o; responses = rs; delays = ds; reserved = ss } ≡ openAnswer w q
+    → record { outcome = Accepted x; responses = rs; delays = ds; reserved = ss } ≡ openAnswer w q
 accepted-is w q e a r d s = rw (e, r, d, s) (answer-accepted w q a)

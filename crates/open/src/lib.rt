@@ -1,8 +1,17 @@
 // Opening a channel: document 01, "Opening". First the answer is worked out, and nothing is written; then, if it is yes, the
 // channel and its rows are.
+use kinds::Channel;
+use kinds::Route;
+use open_checks::Checked;
 use open_rules::Opening;
 use open_rules::Outcome;
 ghost use mathlib.Core.Path.{_≡_};
+ghost use lib.ListN.{length};
+ghost use Rattle.store.specs.Layout.{channelsOf};
+ghost use Rattle.checks.specs.Checks.{firstFailed};
+ghost use Rattle.open_rules.specs.declared.Outcome.the-variants.{Accepted, Refused};
+ghost use Rattle.open_rules.specs.Asked.{asking};
+ghost use Rattle.open_rules.specs.Refusal.{earlyChecks};
 ghost use Rattle.open_rules.specs.Open.{refusal, openAnswer, openStore};
 
 // A refusal: 0 beside it.
@@ -11,9 +20,40 @@ fn refused(number: u64, place: u64) -> Opening
 {
     Opening {
         outcome: Outcome::Refused(number, place),
-        responses: [0u64; 8],
-        delays: [0u64; 8],
-        reserved: [0u64; 8],
+        responses: [0u64; Route::MOST_HOPS],
+        delays: [0u64; Route::MOST_HOPS],
+        reserved: [0u64; Route::MOST_HOPS],
+    }
+}
+
+// The answer to an open that has passed the checks before the search: checks 8 to 10, and the numbers of each link.
+fn late(store: &[u64], x: usize, asked: Channel, way: Route, route: &[u64]) -> Opening
+    requires { ⌜ firstFailed Refused (earlyChecks (now store) (asking asked (now route))) (Accepted x) ≡ Accepted x ⌝ }
+    requires { ⌜ x ≡ channelsOf (now store) ⌝ }
+    requires { ⌜ way .hops ≡ length (now route) ⌝ }
+    ensures { λ r. ⌜ r ≡ openAnswer (now (store .entry)) (asking asked (now (route .entry))) ⌝ }
+{
+    let hops = way.hops;
+    let mut responses = [0u64; Route::MOST_HOPS];
+    let silent = open_search::responses(store, asked, route, &mut responses);
+    if silent < hops {
+        return refused(8, silent as u64);
+    }
+    let sum = open_shares::total(&responses, way);
+    if sum > asked.d {
+        return refused(9, 0);
+    }
+    let delays = open_shares::delays(asked, way, sum, &responses);
+    let reserved = open_shares::reserved(store, asked, route, &delays);
+    let full = open_shares::full_link(store, route, &reserved);
+    if full < hops {
+        return refused(10, full as u64);
+    }
+    Opening {
+        outcome: Outcome::Accepted(x as u64),
+        responses: responses,
+        delays: delays,
+        reserved: reserved,
     }
 }
 
@@ -21,43 +61,38 @@ fn refused(number: u64, place: u64) -> Opening
 pub fn answer(store: &[u64], c: u64, p: u64, d: u64, b: u64, route: &[u64]) -> Opening
     ensures { λ r. ⌜ r ≡ openAnswer (now (store .entry)) (record { c = c; p = p; d = d; b = b; route = now (route .entry) }) ⌝ }
 {
-    let outcome = open_checks::early(store, c, p, d, b, route);
-    if let Outcome::Refused(number, place) = outcome {
-        return refused(number, place);
+    let checked = open_checks::early(store, c, p, d, b, route);
+    match checked {
+        Checked::Refused(number, place) => refused(number, place),
+        Checked::Passed(x, asked, way) => late(store, x, asked, way, route),
     }
-    let hops = route.len();
-    let mut responses = [0u64; 8];
-    let silent = open_search::responses(store, c, p, route, &mut responses);
-    if silent < hops {
-        return refused(8, silent as u64);
+}
+
+// The same, and a yes is written.
+fn granted(store: &mut [u64], x: usize, asked: Channel, way: Route, route: &[u64]) -> Opening
+    requires { ⌜ firstFailed Refused (earlyChecks (now store) (asking asked (now route))) (Accepted x) ≡ Accepted x ⌝ }
+    requires { ⌜ x ≡ channelsOf (now store) ⌝ }
+    requires { ⌜ way .hops ≡ length (now route) ⌝ }
+    ensures { λ r. ⌜ r ≡ openAnswer (now (store .entry)) (asking asked (now (route .entry))) ⌝ }
+    ensures { λ _. ⌜ now (store .exit) ≡ openStore (now (store .entry)) (asking asked (now (route .entry))) ⌝ }
+{
+    let opening = late(store, x, asked, way, route);
+    let outcome = opening.outcome;
+    if let Outcome::Accepted(_) = outcome {
+        open_write::enter(store, x, asked, route, &opening.delays);
     }
-    let sum = open_shares::total(&responses, hops);
-    if sum > d {
-        return refused(9, 0);
-    }
-    let delays = open_shares::delays(p, d, sum, &responses, hops);
-    let reserved = open_shares::reserved(store, c, p, b, route, &delays);
-    let full = open_shares::full_link(store, route, &reserved);
-    if full < hops {
-        return refused(10, full as u64);
-    }
-    Opening {
-        outcome: outcome,
-        responses: responses,
-        delays: delays,
-        reserved: reserved,
-    }
+    opening
 }
 
 // The public call: opens a channel, or refuses and leaves the store alone.
 pub fn open(store: &mut [u64], c: u64, p: u64, d: u64, b: u64, route: &[u64]) -> Opening
     ensures { λ r. ⌜ r ≡ openAnswer (now (store .entry)) (record { c = c; p = p; d = d; b = b; route = now (route .entry) }) ⌝ }
-    ensures { λ _. ⌜ now (store .exit) ≡ openStore (now (store .entry)) (record { c = c; p = p; d = d; b = b; route = now (route .entry) }) ⌝ }
+    ensures { λ _. ⌜ now (store .exit) ≡ openStore (now (store .entry))
+        (record { c = c; p = p; d = d; b = b; route = now (route .entry) }) ⌝ }
 {
-    let opening = answer(store, c, p, d, b, route);
-    let outcome = opening.outcome;
-    if let Outcome::Accepted(x) = outcome {
-        open_write::enter(store, x as usize, c, p, d, b, route, &opening.delays);
+    let checked = open_checks::early(store, c, p, d, b, route);
+    match checked {
+        Checked::Refused(number, place) => refused(number, place),
+        Checked::Passed(x, asked, way) => granted(store, x, asked, way, route),
     }
-    opening
 }

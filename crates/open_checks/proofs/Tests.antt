@@ -6,6 +6,9 @@ use mathlib.Core.List.{List}
 use native.Mathlib.Nat.{zero-add}
 use lib.Dec.{ltb}
 use borrow.Author.Tests.{lt-ltb, le-ltb}
+use Rattle.kinds.specs.declared.Channel.{Channel}
+use Rattle.kinds.specs.declared.Route.{Route}
+use Rattle.open_checks.specs.declared.Checked.the-variants.{Passed}
 use Rattle.store.specs.Layout.{numberAt}
 use Rattle.store.specs.Route.{from}
 
@@ -20,3 +23,7 @@ module _ {x n most : ℕ} (e : x ≡ n) where
 
   pub under : x < most → ltb n most ≡ true
   under h = lt-ltb n most (rw e at h)
+
+-- what was passed, part by part
+pub passed-same : {x y : ℕ} {a b : Channel} {r s : Route} → x ≡ y → a ≡ b → r ≡ s → Passed x a r ≡ Passed y b s
+passed-same e f g = rw (e, f, g)

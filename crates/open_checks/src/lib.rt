@@ -6,7 +6,6 @@ use kinds::Link;
 use kinds::Network;
 use kinds::Route;
 use kinds::Slot;
-use open_rules::Outcome;
 use store::head;
 use store::link;
 ghost use mathlib.Core.Path.{_≡_};
@@ -15,8 +14,15 @@ ghost use Rattle.store.specs.Layout.{Long, channelsOf};
 ghost use Rattle.folds.specs.Folds.{firstNot};
 ghost use Rattle.store.specs.Route.{from, Known};
 ghost use Rattle.checks.specs.Checks.{firstFailed};
-ghost use Rattle.open_rules.specs.declared.Outcome.the-variants.{Accepted, Refused};
+ghost use Rattle.open_checks.specs.declared.Checked.the-variants.{Passed, Refused};
 ghost use Rattle.open_rules.specs.Refusal.{takesRow, earlyChecks};
+
+// What the checks leave of a request: the number that its channel will have, what it asks for, and how many links its route has; or
+// the refusal's number and place.
+pub enum Checked {
+    Refused(u64, u64),
+    Passed(usize, Channel, Route),
+}
 
 // 7: the first place of the route whose link has no room for a row, or the route's length.
 fn crowded_link(store: &[u64], route: &[u64]) -> usize
@@ -35,42 +41,43 @@ fn crowded_link(store: &[u64], route: &[u64]) -> usize
     n
 }
 
-// Checks 17, 14 and 1 to 7, in this order: the refusal, or the number that the channel will have.
-pub fn early(store: &[u64], c: u64, p: u64, d: u64, b: u64, route: &[u64]) -> Outcome
+// Checks 17, 14 and 1 to 7, in this order.
+pub fn early(store: &[u64], c: u64, p: u64, d: u64, b: u64, route: &[u64]) -> Checked
     ensures { λ r. ⌜ r ≡ firstFailed Refused
         (earlyChecks (now (store .entry)) (record { c = c; p = p; d = d; b = b; route = now (route .entry) }))
-        (Accepted (channelsOf (now (store .entry)))) ⌝ }
+        (Passed (channelsOf (now (store .entry))) (record { c = c; p = p; d = d; b = b })
+        (record { hops = length (now (route .entry)) })) ⌝ }
 {
     if !sound::is_sound(store) {
-        return Outcome::Refused(17, 0);
+        return Checked::Refused(17, 0);
     }
     if head::clock(store) >= Slot::END {
-        return Outcome::Refused(14, 0);
+        return Checked::Refused(14, 0);
     }
-    let CheckedChannel::Good(_) = Channel::new(c, p, d, b) else {
-        return Outcome::Refused(1, 0);
+    let CheckedChannel::Good(asked) = Channel::new(c, p, d, b) else {
+        return Checked::Refused(1, 0);
     };
-    let CheckedRoute::Good(_) = Route::new(route.len() as u64) else {
-        return Outcome::Refused(2, 0);
+    let CheckedRoute::Good(way) = Route::new(route.len()) else {
+        return Checked::Refused(2, 0);
     };
     let unknown = store_route::unknown_link(store, route, 0, route.len());
     if unknown < route.len() {
-        return Outcome::Refused(3, unknown as u64);
+        return Checked::Refused(3, unknown as u64);
     }
     let repeated = store_route::repeated_link(route, 0, route.len());
     if repeated < route.len() {
-        return Outcome::Refused(4, repeated as u64);
+        return Checked::Refused(4, repeated as u64);
     }
     let parted = store_route::parted_link(store, route, 0, route.len());
     if parted < route.len() {
-        return Outcome::Refused(5, parted as u64);
+        return Checked::Refused(5, parted as u64);
     }
-    if head::channels(store) >= Network::MOST_CHANNELS as usize {
-        return Outcome::Refused(6, 0);
+    if head::channels(store) >= Network::MOST_CHANNELS {
+        return Checked::Refused(6, 0);
     }
     let crowded = crowded_link(store, route);
     if crowded < route.len() {
-        return Outcome::Refused(7, crowded as u64);
+        return Checked::Refused(7, crowded as u64);
     }
-    Outcome::Accepted(head::channels(store) as u64)
+    Checked::Passed(head::channels(store), asked, way)
 }

@@ -19,8 +19,8 @@ use Rattle.folds.specs.Folds.{every, firstNot}
 use Rattle.store.specs.Route.{from, exists}
 use Rattle.folds.proofs.Folds.{every-at, Passing, passing-none, passing-more, passing-first, passing-end}
 use Rattle.store.proofs.Laws.Sound.{Sound}
-use Rattle.open_rules.specs.Search.{rowAt, rowsTo, newRow, oldResponse, position, newResponse}
-use Rattle.open_rules.specs.Search.{isFound, lengthOf, responds, responses}
+use Rattle.open_rules.specs.Search.{rowAt, rowsTo, newRow, oldResponse, position, newResponse, isFound, lengthOf, responds}
+use Rattle.open_rules.specs.Search.{responses}
 use Rattle.open_rules.specs.Shares.{eight}
 use Rattle.open_rules.proofs.Laws.Eight.{eight-none, eight-more}
 use Rattle.open_rules.proofs.Laws.Ranged.{rows-most, c-most, delay-most, rows-ranged, all-ranged}

@@ -1,5 +1,8 @@
 // The search of an open: document 01, "Opening", steps 1 to 3. On each link of the route, the place of the new channel and its
-// response there. The new channel has packets `c` and spacing `p`.
+// response there.
+use kinds::Channel;
+use kinds::Link;
+use kinds::Route;
 use response::Answer;
 use response::response_under;
 use store::channel;
@@ -18,7 +21,7 @@ ghost use Rattle.open_rules.specs.Shares.{eight};
 ghost use Rattle.open_search.specs.Table.{tableWritten};
 
 // Link `l`'s rows, C, p and delay of each, below the new channel, which is the table's first row.
-fn put_rows(store: &[u64], l: usize, table: &mut [u64; 99])
+fn put_rows(store: &[u64], l: usize, table: &mut [u64; 3 * Link::MOST_ROWS + 3])
     requires { ⌜ soundOf (now store) ≡ true ⌝ }
     requires { ⌜ l < linksOf (now store) ⌝ }
     ensures { λ _. ⌜ now (table .exit) ≡ tableWritten (now (store .entry)) l (now (table .entry)) (rowsOf (now (store .entry)) l) ⌝ }
@@ -37,17 +40,25 @@ fn put_rows(store: &[u64], l: usize, table: &mut [u64; 99])
 }
 
 // Writes the response at each place of the route, up to the first that has none; that place, or the route's length, is the answer.
-pub fn responses(store: &[u64], c: u64, p: u64, route: &[u64], found: &mut [u64; 8]) -> usize
+pub fn responses(
+    store: &[u64],
+    asked: Channel,
+    route: &[u64],
+    found: &mut [u64; Route::MOST_HOPS],
+) -> usize
     requires { ⌜ soundOf (now store) ≡ true ⌝ }
-    requires { ⌜ inRangeC c ≡ true ⌝ }
-    requires { ⌜ inRangeP p ≡ true ⌝ }
+    requires { ⌜ inRangeC (asked .c) ≡ true ⌝ }
+    requires { ⌜ inRangeP (asked .p) ≡ true ⌝ }
     requires { ⌜ length (now route) ≤ mostHops ⌝ }
     requires { ⌜ every (exists (now store) (from (now route) 0)) (length (now route)) ≡ true ⌝ }
     requires { ⌜ now found ≡ replicate 8 0 ⌝ }
-    ensures { λ r. ⌜ r ≡ firstNot (responds (now (store .entry)) c p (from (now (route .entry)) 0)) (length (now (route .entry))) ⌝ }
-    ensures { λ r. ⌜ now (found .exit) ≡ eight (responsesOf (now (store .entry)) c p (from (now (route .entry)) 0)) r ⌝ }
+    ensures { λ r. ⌜ r ≡ firstNot (responds (now (store .entry)) (asked .c) (asked .p) (from (now (route .entry)) 0))
+        (length (now (route .entry))) ⌝ }
+    ensures { λ r. ⌜ now (found .exit) ≡ eight (responsesOf (now (store .entry)) (asked .c) (asked .p) (from (now (route .entry)) 0)) r ⌝ }
 {
-    let mut table = [0u64; 99];
+    let c = asked.c;
+    let p = asked.p;
+    let mut table = [0u64; 3 * Link::MOST_ROWS + 3];
     table[0] = c;
     table[1] = p;
     let mut place = route.len();

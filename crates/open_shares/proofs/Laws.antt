@@ -4,9 +4,9 @@ use mathlib.Core.Path.{_≡_}
 use mathlib.Core.List.{List}
 use native.Mathlib.Nat.{le-trans}
 use native.Mathlib.Omega.{arith}
+use Rattle.store.specs.Ranged.{mostReserved}
 use Rattle.kinds.specs.Ranges.{mostP}
 use Rattle.store.specs.Layout.{Store, numberAt}
-use Rattle.store.specs.Amounts.{mostReserved}
 use Rattle.store.proofs.Laws.Sound.{sound-is}
 use Rattle.open_rules.specs.Request.{Request, hops, link}
 use Rattle.open_rules.specs.Refusal.{responsesOf, delaysOf, reservedFor}

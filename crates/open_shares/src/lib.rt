@@ -1,25 +1,29 @@
 // How the asked delay is shared out along a route, and the packets reserved for it: document 01, "Opening". Arrays have a
 // number for each place of the route.
+use kinds::Channel;
+use kinds::Route;
 use store::link;
 ghost use mathlib.Core.Path.{_≡_};
 ghost use mathlib.Core.Bool.{true};
 ghost use Prim.Native.Nat.{_≤_, _<_};
 ghost use lib.ListN.{length};
+ghost use Rattle.store.specs.Ranged.{mostReserved};
 ghost use Rattle.kinds.specs.Ranges.{mostHops, mostC, mostP, mostD, mostB};
 ghost use Rattle.store.specs.Layout.{numberAt, linksOf};
 ghost use Rattle.folds.specs.Folds.{every, firstNot, sumTo};
 ghost use Rattle.store.specs.Route.{from, exists};
-ghost use Rattle.store.specs.Amounts.{mostReserved};
+ghost use Rattle.store.specs.Amounts.{reservedAlong};
 ghost use Rattle.store.specs.Sound.{soundOf};
-ghost use Rattle.open_rules.specs.Shares.{delays as delaysOf, reserved as reservedOf, takenOf, fitsBuffer, eight};
+ghost use Rattle.open_rules.specs.Shares.{delays as delaysOf, takenOf, fitsBuffer, eight};
 ghost use Rattle.open_shares.specs.Ranges.{AllUpTo, Places};
 
-// S, the sum of the first `n` responses.
-pub fn total(responses: &[u64; 8], n: usize) -> u64
-    requires { ⌜ n ≤ mostHops ⌝ }
-    requires { ⌜ AllUpTo (now responses) n mostP ⌝ }
-    ensures { λ r. ⌜ r ≡ sumTo (numberAt (now (responses .entry))) n ⌝ }
+// S, the sum of the responses along a route.
+pub fn total(responses: &[u64; Route::MOST_HOPS], way: Route) -> u64
+    requires { ⌜ way .hops ≤ mostHops ⌝ }
+    requires { ⌜ AllUpTo (now responses) (way .hops) mostP ⌝ }
+    ensures { λ r. ⌜ r ≡ sumTo (numberAt (now (responses .entry))) (way .hops) ⌝ }
 {
+    let n = way.hops;
     let mut sum: u64 = 0;
     let mut j: usize = 0;
     while j < n {
@@ -29,17 +33,25 @@ pub fn total(responses: &[u64; 8], n: usize) -> u64
     sum
 }
 
-// The delay at each of `n` places: its share of `d`, or `p` if that is smaller. `sum` is S.
-pub fn delays(p: u64, d: u64, sum: u64, responses: &[u64; 8], n: usize) -> [u64; 8]
-    requires { ⌜ n ≤ mostHops ⌝ }
-    requires { ⌜ d ≤ mostD ⌝ }
-    requires { ⌜ AllUpTo (now responses) n mostP ⌝ }
-    requires { ⌜ sum ≡ sumTo (numberAt (now responses)) n ⌝ }
+// The delay at each place of it: its share of D, or p if that is smaller. `sum` is S.
+pub fn delays(
+    asked: Channel,
+    way: Route,
+    sum: u64,
+    responses: &[u64; Route::MOST_HOPS],
+) -> [u64; Route::MOST_HOPS]
+    requires { ⌜ way .hops ≤ mostHops ⌝ }
+    requires { ⌜ asked .d ≤ mostD ⌝ }
+    requires { ⌜ AllUpTo (now responses) (way .hops) mostP ⌝ }
+    requires { ⌜ sum ≡ sumTo (numberAt (now responses)) (way .hops) ⌝ }
     requires { ⌜ 1 ≤ sum ⌝ }
-    requires { ⌜ sum ≤ d ⌝ }
-    ensures { λ r. ⌜ r ≡ eight (delaysOf p d n (numberAt (now (responses .entry)))) n ⌝ }
+    requires { ⌜ sum ≤ asked .d ⌝ }
+    ensures { λ r. ⌜ r ≡ eight (delaysOf (asked .p) (asked .d) (way .hops) (numberAt (now (responses .entry)))) (way .hops) ⌝ }
 {
-    let mut given = [0u64; 8];
+    let n = way.hops;
+    let p = asked.p;
+    let d = asked.d;
+    let mut given = [0u64; Route::MOST_HOPS];
     let mut j: usize = 0;
     while j < n {
         let r = responses[j];
@@ -57,42 +69,42 @@ pub fn delays(p: u64, d: u64, sum: u64, responses: &[u64; 8], n: usize) -> [u64;
 // The packets to be reserved at place `j` of the route.
 fn reserved_at(
     store: &[u64],
-    c: u64,
-    p: u64,
-    b: u64,
+    asked: Channel,
     route: &[u64],
-    delays: &[u64; 8],
+    delays: &[u64; Route::MOST_HOPS],
     j: usize,
 ) -> u64
-    requires { ⌜ Places (now store) p (now route) (now delays) ⌝ }
+    requires { ⌜ Places (now store) (asked .p) (now route) (now delays) ⌝ }
     requires { ⌜ j < length (now route) ⌝ }
-    requires { ⌜ c ≤ mostC ⌝ }
-    requires { ⌜ b ≤ mostB ⌝ }
-    ensures { λ r. ⌜ r ≡ reservedOf (now (store .entry)) c p b (from (now (route .entry)) 0)
+    requires { ⌜ asked .c ≤ mostC ⌝ }
+    requires { ⌜ asked .b ≤ mostB ⌝ }
+    ensures { λ r. ⌜ r ≡ reservedAlong (now (store .entry)) (asked .c) (asked .p) (asked .b) (from (now (route .entry)) 0)
         (numberAt (now (delays .entry))) j ⌝ }
 {
     if j == 0 {
-        return b * c;
+        return asked.b * asked.c;
     }
-    let before = route[j - 1] as usize;
-    let early = link::horizon(store, before) + delays[j - 1];
-    // both fit 32 bits, where a division is cheaper
-    let times = (early + delays[j] - 2) as u32 / p as u32;
-    c * (1 + times as u64)
+    let horizon = link::horizon(store, route[j - 1] as usize);
+    store_route::later_reserved(asked.c, asked.p, horizon, delays[j - 1], delays[j])
 }
 
 // The packets to be reserved at each place of the route.
-pub fn reserved(store: &[u64], c: u64, p: u64, b: u64, route: &[u64], delays: &[u64; 8]) -> [u64; 8]
-    requires { ⌜ Places (now store) p (now route) (now delays) ⌝ }
-    requires { ⌜ c ≤ mostC ⌝ }
-    requires { ⌜ b ≤ mostB ⌝ }
-    ensures { λ r. ⌜ r ≡ eight (reservedOf (now (store .entry)) c p b (from (now (route .entry)) 0)
+pub fn reserved(
+    store: &[u64],
+    asked: Channel,
+    route: &[u64],
+    delays: &[u64; Route::MOST_HOPS],
+) -> [u64; Route::MOST_HOPS]
+    requires { ⌜ Places (now store) (asked .p) (now route) (now delays) ⌝ }
+    requires { ⌜ asked .c ≤ mostC ⌝ }
+    requires { ⌜ asked .b ≤ mostB ⌝ }
+    ensures { λ r. ⌜ r ≡ eight (reservedAlong (now (store .entry)) (asked .c) (asked .p) (asked .b) (from (now (route .entry)) 0)
         (numberAt (now (delays .entry)))) (length (now (route .entry))) ⌝ }
 {
-    let mut packets = [0u64; 8];
+    let mut packets = [0u64; Route::MOST_HOPS];
     let mut j: usize = 0;
     while j < route.len() {
-        packets[j] = reserved_at(store, c, p, b, route, delays, j);
+        packets[j] = reserved_at(store, asked, route, delays, j);
         j += 1;
     }
     packets
@@ -119,7 +131,7 @@ fn taken(store: &[u64], l: usize) -> u64
 }
 
 // 10: the first place whose link's buffer would be exceeded, or the route's length.
-pub fn full_link(store: &[u64], route: &[u64], reserved: &[u64; 8]) -> usize
+pub fn full_link(store: &[u64], route: &[u64], reserved: &[u64; Route::MOST_HOPS]) -> usize
     requires { ⌜ soundOf (now store) ≡ true ⌝ }
     requires { ⌜ length (now route) ≤ mostHops ⌝ }
     requires { ⌜ every (exists (now store) (from (now route) 0)) (length (now route)) ≡ true ⌝ }

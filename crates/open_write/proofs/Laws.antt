@@ -10,7 +10,8 @@ use Rattle.open_rules.specs.Request.{Request, hops, link}
 use Rattle.open_rules.specs.Join.{channelWritten, rowsJoined}
 use Rattle.open_rules.proofs.Laws.Facts.{Early}
 use Rattle.open_rules.proofs.Laws.Written.{channel-length, channel-route}
-use Rattle.open_rules.proofs.Laws.Rows.{SameRows, same-rows, same-channel, same-place, Joinable, rows-length, next-link, next-rows}
+use Rattle.open_rules.proofs.Laws.Rows.{SameRows, same-rows, same-channel, same-place, Joinable, rows-length, next-link}
+use Rattle.open_rules.proofs.Laws.Rows.{next-rows}
 use Rattle.open_rules.proofs.Laws.Join.{written-rows, written-joinable, early-link, early-row-channel, early-row-place}
 use Rattle.open_insert.specs.Rows.{Rows}
 use Rattle.open_write.specs.Ready.{Ready, Enterable}

@@ -1,12 +1,12 @@
 -- How the steps of the code meet the definitions: the loops that write, with their invariants.
-use Prim.Native.Nat.{ℕ, suc, _+_, _-_, _≤_, _<_}
+use Prim.Native.Nat.{ℕ, suc, _+_, _≤_, _<_}
 use mathlib.Core.Path.{_≡_, refl}
 use mathlib.Core.List.{List}
 use native.Mathlib.Numerals.{add-one}
 use native.Mathlib.Omega.{arith}
 use lib.ListN.{length}
-use Rattle.store.specs.Layout.{Store, recordLength, numberAt, routeOf}
-use Rattle.store.specs.Layout.{delayOf, cleared, withC, withP, withD, withB, withHops, withRoute, withDelay}
+use Rattle.store.specs.Layout.{Store, recordLength, numberAt, routeOf, delayOf, cleared, withC, withP, withD, withB, withHops}
+use Rattle.store.specs.Layout.{withRoute, withDelay}
 use Rattle.store.specs.Route.{from}
 use Rattle.open_rules.specs.Request.{Request, hops, link}
 use Rattle.open_rules.specs.Join.{placesWritten, channelWritten, rowJoined, rowsJoined}

@@ -1,4 +1,6 @@
 // What an accepted open writes: document 01, "Opening". The new channel's record, and its row on each link of its route.
+use kinds::Channel;
+use kinds::Route;
 use store::channel;
 use store::head;
 ghost use mathlib.Core.Path.{_≡_};
@@ -7,11 +9,12 @@ ghost use lib.ListN.{length};
 ghost use Rattle.kinds.specs.Ranges.{mostChannels, mostHops};
 ghost use Rattle.store.specs.Layout.{Long, numberAt, routeOf, withChannels};
 ghost use Rattle.store.specs.Route.{from};
+ghost use Rattle.open_rules.specs.Asked.{asking};
 ghost use Rattle.open_rules.specs.Join.{placesWritten, channelWritten, rowsJoined};
 ghost use Rattle.open_write.specs.Ready.{Ready, Enterable};
 
 // The first `route.len()` links of channel `x`'s route, and the delay on each.
-fn put_places(store: &mut [u64], x: usize, route: &[u64], delays: &[u64; 8])
+fn put_places(store: &mut [u64], x: usize, route: &[u64], delays: &[u64; Route::MOST_HOPS])
     requires { ⌜ Long (now store) ⌝ }
     requires { ⌜ x < mostChannels ⌝ }
     requires { ⌜ length (now route) ≤ mostHops ⌝ }
@@ -30,24 +33,21 @@ fn put_places(store: &mut [u64], x: usize, route: &[u64], delays: &[u64; 8])
 fn put_channel(
     store: &mut [u64],
     x: usize,
-    c: u64,
-    p: u64,
-    d: u64,
-    b: u64,
+    asked: Channel,
     route: &[u64],
-    delays: &[u64; 8],
+    delays: &[u64; Route::MOST_HOPS],
 )
     requires { ⌜ Long (now store) ⌝ }
     requires { ⌜ x < mostChannels ⌝ }
     requires { ⌜ length (now route) ≤ mostHops ⌝ }
-    ensures { λ _. ⌜ now (store .exit) ≡ channelWritten (now (store .entry)) x
-        (record { c = c; p = p; d = d; b = b; route = now (route .entry) }) (numberAt (now (delays .entry))) ⌝ }
+    ensures { λ _. ⌜ now (store .exit) ≡ channelWritten (now (store .entry)) x (asking asked (now (route .entry)))
+        (numberAt (now (delays .entry))) ⌝ }
 {
     channel::clear(store, x);
-    channel::put_c(store, x, c);
-    channel::put_p(store, x, p);
-    channel::put_d(store, x, d);
-    channel::put_b(store, x, b);
+    channel::put_c(store, x, asked.c);
+    channel::put_p(store, x, asked.p);
+    channel::put_d(store, x, asked.d);
+    channel::put_b(store, x, asked.b);
     channel::put_hops(store, x, route.len());
     put_places(store, x, route, delays);
 }
@@ -68,19 +68,15 @@ fn join_rows(store: &mut [u64], x: usize, n: usize)
 pub fn enter(
     store: &mut [u64],
     x: usize,
-    c: u64,
-    p: u64,
-    d: u64,
-    b: u64,
+    asked: Channel,
     route: &[u64],
-    delays: &[u64; 8],
+    delays: &[u64; Route::MOST_HOPS],
 )
-    requires { ⌜ Enterable (now store) (record { c = c; p = p; d = d; b = b; route = now route }) x ⌝ }
+    requires { ⌜ Enterable (now store) (asking asked (now route)) x ⌝ }
     ensures { λ _. ⌜ now (store .exit) ≡ withChannels (rowsJoined (channelWritten (now (store .entry)) x
-        (record { c = c; p = p; d = d; b = b; route = now (route .entry) }) (numberAt (now (delays .entry))))
-        x (length (now (route .entry)))) (x + 1) ⌝ }
+        (asking asked (now (route .entry))) (numberAt (now (delays .entry)))) x (length (now (route .entry)))) (x + 1) ⌝ }
 {
-    put_channel(store, x, c, p, d, b, route, delays);
+    put_channel(store, x, asked, route, delays);
     join_rows(store, x, route.len());
     head::put_channels(store, x + 1);
 }

@@ -6,7 +6,7 @@ use native.Mathlib.Omega.{arith}
 use borrow.Author.Needs.{needs}
 use lib.ListN.{length, take}
 use Rattle.kinds.specs.Ranges.{mostLinks}
-use Rattle.kinds.proofs.Laws.{refuted, held, good-channel, refused-channel, good-route, refused-route}
+use Rattle.kinds.proofs.Laws.{refuted, held, good-channel, channel-asked, refused-channel, good-route, route-asked, refused-route}
 use Rattle.store.specs.Layout.{Long, linksOf}
 use Rattle.store.specs.Route.{from, Known}
 use Rattle.folds.proofs.Folds.{first-less, first-all}
@@ -14,9 +14,9 @@ use Rattle.store.proofs.Laws.Sound.{sound-is}
 use Rattle.store_route.proofs.Laws.{link-bound}
 use Rattle.checks.specs.Checks.{Check}
 use Rattle.checks.proofs.Laws.{AllHold, all-passed, one-more, fails-after}
-use Rattle.open_rules.specs.declared.Outcome.the-variants.{Refused}
+use Rattle.open_checks.specs.declared.Checked.the-variants.{Refused}
 use Rattle.open_rules.specs.Refusal.{earlyChecks}
-use Rattle.open_checks.proofs.Tests.{at-least, under}
+use Rattle.open_checks.proofs.Tests.{at-least, under, passed-same}
 use Rattle.open_checks.proofs.early.Statement.{statement}
 use Rattle.open_checks.proofs.early.Tie as tie
 
@@ -33,11 +33,11 @@ start-17 c = c .before .before .before .before
 abbrev start-14 : tie.Else2 → tie.Start
 start-14 c = start-17 (c .before .before)
 
-abbrev start-1 : tie.After-enum-told → tie.Start
-start-1 c = start-14 (c .before .before .before)
+abbrev start-1 : tie.After-known-told → tie.Start
+start-1 c = start-14 (c .before .before .before .before)
 
-abbrev start-2 : tie.After-enum-told3 → tie.Start
-start-2 c = start-1 (c .before .before .before)
+abbrev start-2 : tie.After-known-told2 → tie.Start
+start-2 c = start-1 (c .before .before .before .before)
 
 abbrev start-3 : tie.Else3 → tie.Start
 start-3 c = start-2 (c .before .before)
@@ -54,6 +54,10 @@ start-6 c = start-5 (c .before .before)
 abbrev start-7 : tie.Else7 → tie.Start
 start-7 c = start-6 (c .before .before)
 
+-- where the route's number of links was told
+abbrev known-7 : tie.Else7 → tie.After-known-told2
+known-7 c = c .before .before .before .before .before .before .before .before .before .before
+
 past-17 : (c : tie.Else1) → AllHold (take 1 (checks (start-17 c)))
 past-17 c = one-more (checks (start-17 c)) 0 refl tt (held (c .before .is-sound .ensures) (c .if1 .left))
 
@@ -61,15 +65,17 @@ past-14 : (c : tie.Else2) → AllHold (take 2 (checks (start-14 c)))
 past-14 c =
     one-more (checks (start-14 c)) 1 refl (past-17 (c .before .before)) (under (c .before .clock .ensures) (c .if2 .left))
 
-past-1 : (c : tie.After-enum-told) → AllHold (take 3 (checks (start-1 c)))
+past-1 : (c : tie.After-known-told) → AllHold (take 3 (checks (start-1 c)))
 past-1 c =
-    one-more (checks (start-1 c)) 2 refl (past-14 (c .before .before .before))
-    (good-channel _ _ _ _ (sym (c .before .before .new .ensures) ∙ c .enum-told .given .1))
+    let a = c .before in
+    one-more (checks (start-1 c)) 2 refl (past-14 (a .before .before .before))
+    (good-channel _ _ _ _ (sym (a .before .before .new .ensures) ∙ a .asked .given .1))
 
-past-2 : (c : tie.After-enum-told3) → AllHold (take 4 (checks (start-2 c)))
+past-2 : (c : tie.After-known-told2) → AllHold (take 4 (checks (start-2 c)))
 past-2 c =
-    one-more (checks (start-2 c)) 3 refl (past-1 (c .before .before .before))
-    (good-route _ (sym (c .before .before .new2 .ensures) ∙ c .enum-told3 .given .1))
+    let a = c .before in
+    one-more (checks (start-2 c)) 3 refl (past-1 (a .before .before .before))
+    (good-route _ (sym (a .before .before .new2 .ensures) ∙ a .way .given .1))
 
 past-3 : (c : tie.Else3) → AllHold (take 5 (checks (start-3 c)))
 past-3 c =
@@ -126,32 +132,32 @@ returns-2 c =
 new-requires : tie.Need-new-requires
 new-requires c κs = search needs
 
+enum-known-asked : tie.Need-enum-known-asked
+enum-known-asked c = search needs
+
 enum-told : tie.Need-enum-told
 enum-told c = search needs
-
-enum-told-2 : tie.Need-enum-told-2
-enum-told-2 c = search needs
 
 returns-3 : tie.Need-returns-3
 returns-3 c =
     let t = c .before .before .before in
     fails-after Refused (checks (start-14 t)) 2 _ refl (past-14 t)
-    (refused-channel _ _ _ _ (sym (c .before .before .new .ensures) ∙ c .enum-told2 .given .1))
+    (refused-channel _ _ _ _ (sym (c .before .before .new .ensures) ∙ c .enum-told .given .1))
 
 new-requires-2 : tie.Need-new-requires-2
 new-requires-2 c κs = search needs
 
-enum-told-3 : tie.Need-enum-told-3
-enum-told-3 c = search needs
+enum-known-way : tie.Need-enum-known-way
+enum-known-way c = search needs
 
-enum-told-4 : tie.Need-enum-told-4
-enum-told-4 c = search needs
+enum-told-2 : tie.Need-enum-told-2
+enum-told-2 c = search needs
 
 returns-4 : tie.Need-returns-4
 returns-4 c =
     let t = c .before .before .before in
     fails-after Refused (checks (start-1 t)) 3 _ refl (past-1 t)
-    (refused-route _ (sym (c .before .before .new2 .ensures) ∙ c .enum-told4 .given .1))
+    (refused-route _ (sym (c .before .before .new2 .ensures) ∙ c .enum-told2 .given .1))
 
 unknown-link-requires : tie.Need-unknown-link-requires
 unknown-link-requires c κs = (long (start-2 c) (past-2 c .0, tt), omega arith)
@@ -205,7 +211,11 @@ channels-requires-2 c κs = long (start-7 c) (past-7 c .0, tt)
 returns-10 : tie.Need-returns-10
 returns-10 c =
     let t = c .before in
-    rw (c .channels2 .ensures) (sym (all-passed Refused (checks (start-7 t)) _ (past-7 t)))
+    let two = known-7 t .before in
+    let one = two .before .before .before .before in
+    passed-same (c .channels2 .ensures) (channel-asked _ _ _ _ (sym (one .before .before .new .ensures) ∙ one .asked .given .1))
+    (route-asked _ (sym (two .before .before .new2 .ensures) ∙ two .way .given .1))
+    ∙ sym (all-passed Refused (checks (start-7 t)) _ (past-7 t))
 
 pub early-spec : {M : Type 1} → statement M
 early-spec =
@@ -216,12 +226,12 @@ early-spec =
     clock-requires
     returns-2
     new-requires
+    enum-known-asked
     enum-told
-    enum-told-2
     returns-3
     new-requires-2
-    enum-told-3
-    enum-told-4
+    enum-known-way
+    enum-told-2
     returns-4
     unknown-link-requires
     returns-5

@@ -16,23 +16,22 @@ use Rattle.open_rules.specs.Search.{isFound, hasResponse, smallest, newResponse
 use Rattle.open_rules.proofs.Laws.Search.{Falling, falling-none, falling-more, falling-stop, falling-end}
 use Rattle.open_rules.proofs.Laws.Ranged.{link-most, rows-most}
 use Rattle.open_search.proofs.Table.{filled}
-use Rattle.open_search.proofs.Steps.{link-there, Turn, few, old-workable, old-limit, old-answer}
-use Rattle.open_search.proofs.Steps.{new-workable, new-limit, new-answer}
-use Rattle.open_search.proofs.Steps.{Searching, searching-none, searching-more, searching-first, searching-end}
+use Rattle.open_search.proofs.Steps.{link-there, Turn, few, old-workable, old-limit, old-answer, new-workable, new-limit}
+use Rattle.open_search.proofs.Steps.{new-answer, Searching, searching-none, searching-more, searching-first, searching-end}
 use Rattle.open_search.proofs.responses.Statement.{statement}
 use Rattle.open_search.proofs.responses.Tie as tie
 
 abbrev Inv-loop : tie.InvT-loop
-Inv-loop store c p route found table place j l q₀ q = Falling (hasResponse store c p l) (rowsOf store l) q
+Inv-loop store route found c p table place j l q₀ q = Falling (hasResponse store c p l) (rowsOf store l) q
 
 abbrev μ-loop : tie.MeasureT-loop
-μ-loop store c p route found table place j l q₀ q = q
+μ-loop store route found c p table place j l q₀ q = q
 
 abbrev Inv-search : tie.InvT-search
-Inv-search store c p route found₀ table₀ place₀ j₀ found table place j = Searching store c p route found table place j
+Inv-search store route found₀ c p table₀ place₀ j₀ found table place j = Searching store c p route found table place j
 
 abbrev μ-search : tie.MeasureT-search
-μ-search store c p route found₀ table₀ place₀ j₀ found table place j = length route - j
+μ-search store route found₀ c p table₀ place₀ j₀ found table place j = length route - j
 
 -- Places of the code: a turn of the loop over the route, when its table is made, when a row is looked at, when there is an
 -- answer for an old row, when the position is found, when there is an answer for the new channel.
@@ -72,10 +71,10 @@ abbrev link : Turning → ℕ
 link t = numberAt (start t .args .route .now) (t .before .search .j)
 
 abbrev tried : Turning → ℕ → Bool
-tried t = hasResponse (start t .args .store .now) (start t .args .c) (start t .args .p) (link t)
+tried t = hasResponse (start t .args .store .now) (start t .args .asked .c) (start t .args .asked .p) (link t)
 
 abbrev answer : Turning → Answer
-answer t = newResponse (start t .args .store .now) (start t .args .c) (start t .args .p) (link t)
+answer t = newResponse (start t .args .store .now) (start t .args .asked .c) (start t .args .asked .p) (link t)
 
 sound : (s : Start) → Sound (s .args .store .now)
 sound s = sound-is _ (s .pre .0)
@@ -89,8 +88,8 @@ short : (t : Turning) → t .before .search .j < mostHops
 short t = omega (arith, t .search-test .taken, start t .pre .1 .1 .1 .0)
 
 turn : (r : Tabled)
-    → Turn (start (turning r) .args .store .now) (start (turning r) .args .c) (start (turning r) .args .p) (link (turning r))
-    (r .before .put-rows .last .1 .1 .0)
+    → Turn (start (turning r) .args .store .now) (start (turning r) .args .asked .c) (start (turning r) .args .asked .p)
+    (link (turning r)) (r .before .put-rows .last .1 .1 .0)
 turn r =
     let t = turning r in
     let s = start t in

@@ -11,10 +11,10 @@ use Rattle.open_shares.proofs.delays.Statement.{statement}
 use Rattle.open_shares.proofs.delays.Tie as tie
 
 abbrev Inv-loop : tie.InvT-loop
-Inv-loop p d sum responses n given₀ j₀ given j = Filling (delaysOf p d n (numberAt responses)) n j given
+Inv-loop sum responses n p d given₀ j₀ given j = Filling (delaysOf p d n (numberAt responses)) n j given
 
 abbrev μ-loop : tie.MeasureT-loop
-μ-loop p d sum responses n given₀ j₀ given j = n - j
+μ-loop sum responses n p d given₀ j₀ given j = n - j
 
 -- the response in hand is in range
 response : (c : tie.In-loop Inv-loop μ-loop) → numberAt (c .before .before .args .responses .now) (c .before .loop .j) ≤ mostP

@@ -5,17 +5,17 @@ use borrow.Author.Needs.{needs}
 use lib.ListN.{length}
 use Rattle.store.specs.Layout.{numberAt}
 use Rattle.store.specs.Route.{from}
-use Rattle.open_rules.specs.Shares.{reserved as reservedOf}
+use Rattle.store.specs.Amounts.{reservedAlong}
 use Rattle.open_shares.proofs.Steps.{Filling, filling-none, filling-more, filling-done}
 use Rattle.open_shares.proofs.reserved.Statement.{statement}
 use Rattle.open_shares.proofs.reserved.Tie as tie
 
 abbrev Inv-loop : tie.InvT-loop
-Inv-loop store c p b route delays packets₀ j₀ packets j =
-    Filling (reservedOf store c p b (from route 0) (numberAt delays)) (length route) j packets
+Inv-loop store asked route delays packets₀ j₀ packets j =
+    Filling (reservedAlong store (asked .c) (asked .p) (asked .b) (from route 0) (numberAt delays)) (length route) j packets
 
 abbrev μ-loop : tie.MeasureT-loop
-μ-loop store c p b route delays packets₀ j₀ packets j = length route - j
+μ-loop store asked route delays packets₀ j₀ packets j = length route - j
 
 loop-holds : tie.Need-loop-holds Inv-loop μ-loop
 loop-holds c = filling-none _ _
