@@ -1,4 +1,4 @@
-// Offers, slots and long waits as tests/driver.c reads and answers them, in stores of any numbers. The answers that are
+// Offers, slots and long waits as tests/c/driver.c reads and answers them, in stores of any numbers. The answers that are
 // right, and what is left in the store, are those of tests/counters.rs.
 use crate::counters;
 use crate::driver::Random;

@@ -1,4 +1,4 @@
-// Scripts played through the C interface: each step is a question to tests/driver.c, and its answer becomes the lines of the
+// Scripts played through the C interface: each step is a question to tests/c/driver.c, and its answer becomes the lines of the
 // listing.
 use crate::driver::{ask, fail};
 use crate::listing::{refused, sent};

@@ -1,4 +1,4 @@
-// What the random tests have in common: the library behind tests/driver.c, and where the random numbers come from.
+// What the random tests have in common: the library behind tests/c/driver.c, and where the random numbers come from.
 use std::cell::Cell;
 use std::io::{ErrorKind, Write};
 use std::process::{exit, Command, Stdio};

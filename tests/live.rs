@@ -12,7 +12,7 @@ use crate::requests::{network, Style};
 use crate::room::{Room, END_SLOT, STORE};
 use crate::rooms::Size;
 
-// A sum with one number more, as tests/driver.c has it.
+// A sum with one number more, as tests/c/driver.c has it.
 fn with(all: u64, n: u64) -> u64 {
     (all ^ n).wrapping_mul(1_099_511_628_211)
 }

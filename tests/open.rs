@@ -1,7 +1,7 @@
 // Opening: the library against tests/opening.rs.
 //
 //   open worked COMMAND..   the opens of document 01's listing and its figures on opening, which the library, behind COMMAND
-//                           (tests/driver.c), answers as they are printed there
+//                           (tests/c/driver.c), answers as they are printed there
 //   open random COMMAND..   over 100,000 opens in random rooms, which the library answers as tests/opening.rs does, and after
 //                           which it leaves the same store; SEED=N before the command makes for others
 //

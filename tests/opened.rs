@@ -1,4 +1,4 @@
-// An open as tests/driver.c reads and answers it.
+// An open as tests/c/driver.c reads and answers it.
 use crate::driver::fail;
 use crate::opening::{open, Answer, Request};
 use crate::questions::{spaced, Questions};
@@ -7,7 +7,7 @@ use crate::room::broken;
 // The numbers of all records; those beyond are spare.
 pub const RECORDS: usize = 7_776;
 
-// As tests/driver.c writes it.
+// As tests/c/driver.c writes it.
 fn told(answer: &Answer) -> String {
     let mut numbers = [0; 24];
     match answer {

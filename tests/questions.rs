@@ -1,8 +1,8 @@
-// The questions as tests/driver.c reads them, with the answers that are right.
+// The questions as tests/c/driver.c reads them, with the answers that are right.
 use crate::driver::{ask, fail};
 use crate::room::{set_up, STORE};
 
-// As many numbers as tests/driver.c holds.
+// As many numbers as tests/c/driver.c holds.
 pub const HELD: usize = STORE + 464;
 
 // Longer stores than need be are as good.

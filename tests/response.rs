@@ -1,7 +1,7 @@
 // Document 01, "Response time", once more and on its own: nothing here is taken from the Rattle sources.
 //
 //   response worked FILE        every line of FILE (crates/vectors_response/stdout) has the answer worked out here
-//   response random COMMAND..   the library, behind COMMAND (tests/driver.c), answers some 40,000 random questions so
+//   response random COMMAND..   the library, behind COMMAND (tests/c/driver.c), answers some 40,000 random questions so
 //
 // The response is found by the sentence that defines it: the least r, from 1 to the limit, whose need is at most r, tried
 // one by one. What a row asks for within r is counted message by message: those of the times 0, p, 2p, .. that are below

@@ -3,7 +3,7 @@
 //   script play                         the listing of the script on standard input, as those two have it
 //   script worked DIR ROOMRUN..         every DIR/NAME.script, of which DIR/NAME.listing is the listing: by ROOMRUN, a command that
 //                                       reads a script and writes its listing, and here
-//   script random ROOMRUN.. -- DRIVER.. random scripts, of which ROOMRUN, the library behind DRIVER (tests/driver.c) and `play`
+//   script random ROOMRUN.. -- DRIVER.. random scripts, of which ROOMRUN, the library behind DRIVER (tests/c/driver.c) and `play`
 //                                       have to make the same listing, byte for byte. LINES=N before the command plays about so
 //                                       many lines, SEED=N makes for others
 //

@@ -1,7 +1,7 @@
 // Set-up and sound stores: the library against tests/room.rs.
 //
 //   store damaged FILE       what crates/vectors_damage printed, worked out again
-//   store random COMMAND..   the library, behind COMMAND (tests/driver.c), says of over 100,000 stores whether they are
+//   store random COMMAND..   the library, behind COMMAND (tests/c/driver.c), says of over 100,000 stores whether they are
 //                            sound, and sets up some 3,000 networks, as tests/room.rs does
 //
 // The stores are rooms that are sound as they are made, up to full ones; rooms made to break one rule and no other; sound

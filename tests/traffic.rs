@@ -1,7 +1,7 @@
 // Offering messages, running slots and long waits: the library against tests/queues.rs and tests/counters.rs.
 //
 //   traffic worked COMMAND..   document 01's listing and its figures on offers and slots, which the library, behind COMMAND
-//                              (tests/driver.c), answers as they are printed there
+//                              (tests/c/driver.c), answers as they are printed there
 //   traffic random COMMAND..   random rooms in use, and stores that no calls lead to, in which the library answers as they do.
 //                              SLOTS=N before the command runs about so many slots, SEED=N makes for others; EACH=1 has
 //                              every slot asked for by itself, so that the first that differs is seen

@@ -2,7 +2,7 @@
  * is no longer painted is looked for. Fails if one needs more than BYANGHOSU_STACK. All is done twice, and the second time
  * counts: the first call of memcpy or memset may enter the dynamic linker. */
 #define _XOPEN_SOURCE 700
-#include "../include/byanghosu.h"
+#include "../../include/byanghosu.h"
 #include <inttypes.h>
 #include <stdio.h>
 #include <string.h>

@@ -1,6 +1,6 @@
 /* Holds include/byanghosu.h to document 01's numbers and to what the library does: each refusal number has its own text, and each
  * size is the one at which a call changes its answer. It is C99 and C++11. */
-#include "../include/byanghosu.h"
+#include "../../include/byanghosu.h"
 #include <inttypes.h>
 #include <stdio.h>
 #include <string.h>

@@ -1,6 +1,6 @@
 /* Three wrong uses of the library, by the word that is given. A sanitizer must end each: short and freed are for the address
  * sanitizer, odd for that of undefined behaviour. */
-#include "../include/byanghosu.h"
+#include "../../include/byanghosu.h"
 #include <inttypes.h>
 #include <stdio.h>
 #include <stdlib.h>

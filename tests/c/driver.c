@@ -25,7 +25,7 @@
  *                                    nothing can be sent are skipped
  * idle LENGTH                   ->   how many slots no link can send in
  * skip LENGTH COUNT             ->   how many of them were skipped */
-#include "../include/byanghosu.h"
+#include "../../include/byanghosu.h"
 #include <inttypes.h>
 #include <stdio.h>
 #include <stdlib.h>
