@@ -1,4 +1,4 @@
-// Playing scripts: roomrun against the independent implementation in tests/, in one run.
+// Playing scripts: roomrun against the independent implementation in tests/models, in one run.
 //
 //   roomrun DIR PLAY.. -- ROOMRUN..   PLAY and ROOMRUN are commands that read a script and write its listing; scripts and
 //                                     listings are kept in DIR
