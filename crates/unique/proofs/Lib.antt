@@ -1,10 +1,11 @@
-mod Same
-pub mod Board
-pub mod Calls
-pub mod Part
-pub mod Rows
-pub mod Checks
-pub mod Room
-pub mod Opening
-pub mod Traffic
+mod Shapes
+pub mod Ground
+pub mod Response
+pub mod Store
+pub mod SetUp
+pub mod Sound
+pub mod Open
+pub mod Slot
+pub mod Offer
+pub mod Byanghosu
 pub mod Script
