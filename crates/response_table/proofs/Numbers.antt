@@ -25,42 +25,54 @@ pub filled-more : (rows : List Row) (i : ℕ) → filled rows (i + 1) ≡ withRo
 unfolding filled
 filled-more rows i = ap (filled rows) (add-one i)
 
+-- the numbers of a row, and others behind them
+abbrev lead : Row → List ℕ → List ℕ
+lead z l = z .c ∷ (z .p ∷ (z .delay ∷ l))
+
+-- the zeros behind i rows
+abbrev zeros : ℕ → List ℕ
+zeros i = replicate (96 - 3 * i) 0
+
 -- a row is put behind a row
-past-row : (a b c : ℕ) (l : List ℕ) (i : ℕ) (x : Row) → withRow (a ∷ (b ∷ (c ∷ l))) (suc i) x ≡ a ∷ (b ∷ (c ∷ withRow l i x))
-past-row a b c l i x =
+past-row : (z : Row) (l : List ℕ) (i : ℕ) (x : Row) → withRow (lead z l) (suc i) x ≡ lead z (withRow l i x)
+past-row z l i x =
     let e₀ : 3 * suc i ≡ suc (suc (suc (3 * i))) = omega arith in
     let e₁ : 3 * suc i + 1 ≡ suc (suc (suc (3 * i + 1))) = omega arith in
     let e₂ : 3 * suc i + 2 ≡ suc (suc (suc (3 * i + 2))) = omega arith in
     rw (e₂, e₁, e₀) refl
 
--- a row is put in place of the three numbers behind rows
-behind : (xs : List Row) (a b c : ℕ) (l : List ℕ) (x : Row) → withRow (numbersOf xs ++ (a ∷ (b ∷ (c ∷ l)))) (length xs) x ≡ numbersOf (xs ++ (x ∷ [])) ++ l
+-- a row is put in place of one behind rows
+behind : (xs : List Row) (z : Row) (l : List ℕ) (x : Row)
+    → withRow (numbersOf xs ++ lead z l) (length xs) x ≡ numbersOf (xs ++ (x ∷ [])) ++ l
 unfolding numbersOf
-behind [] a b c l x = refl
-behind (y ∷ xs) a b c l x = past-row (y .c) (y .p) (y .delay) (numbersOf xs ++ (a ∷ (b ∷ (c ∷ l)))) (length xs) x ∙ ap (λ (t : List ℕ). y .c ∷ (y .p ∷ (y .delay ∷ t))) (behind xs a b c l x)
+behind [] z l x = refl
+behind (w ∷ xs) z l x = past-row w (numbersOf xs ++ lead z l) (length xs) x ∙ ap (lead w) (behind xs z l x)
 
 -- the zeros that are left have room for one more row
-zeros-left : (i : ℕ) → i < 32 → replicate {A = ℕ} (96 - 3 * i) 0 ≡ 0 ∷ (0 ∷ (0 ∷ replicate (96 - 3 * suc i) 0))
+zeros-left : (i : ℕ) → i < 32 → zeros i ≡ lead zeroRow (zeros (suc i))
 zeros-left i l =
     let e : 96 - 3 * i ≡ suc (suc (suc (96 - 3 * suc i))) = omega (arith, l) in
     rw e refl
 
-filled-first : (rows : List Row) (i : ℕ) → i ≤ length rows → length rows ≤ 32 → filled rows i ≡ numbersOf (take i rows) ++ replicate (96 - 3 * i) 0
+filled-first : (rows : List Row) (i : ℕ) → i ≤ length rows → length rows ≤ 32 → filled rows i ≡ numbersOf (take i rows) ++ zeros i
 unfolding filled numbersOf
 filled-first rows zero l few = refl
 filled-first rows (suc i) l few =
     let less : i < 32 = omega (arith, l, few) in
     let below : i ≤ length rows = omega (arith, l) in
     let x : Row = getD rows i zeroRow in
-    ap (λ (t : List ℕ). withRow t i x) (filled-first rows i below few ∙ ap (λ (t : List ℕ). numbersOf (take i rows) ++ t) (zeros-left i less))
-    ∙ ap (λ (k : ℕ). withRow (numbersOf (take i rows) ++ (0 ∷ (0 ∷ (0 ∷ replicate (96 - 3 * suc i) 0)))) k x) (sym (length-take-le i rows below))
-    ∙ behind (take i rows) 0 0 0 (replicate (96 - 3 * suc i) 0) x
-    ∙ ap (λ (t : List Row). numbersOf t ++ replicate (96 - 3 * suc i) 0) (sym (take-suc rows i zeroRow l))
+    let xs : List Row = take i rows in
+    ap (λ (t : List ℕ). withRow t i x)
+    (filled-first rows i below few ∙ ap (λ (t : List ℕ). numbersOf xs ++ t) (zeros-left i less))
+    ∙ ap (λ (k : ℕ). withRow (numbersOf xs ++ lead zeroRow (zeros (suc i))) k x) (sym (length-take-le i rows below))
+    ∙ behind xs zeroRow (zeros (suc i)) x ∙ ap (λ (t : List Row). numbersOf t ++ zeros (suc i)) (sym (take-suc rows i zeroRow l))
 
 -- the loop's end
 pub filled-all : (rows : List Row) → length rows ≤ 32 → filled rows (length rows) ≡ filledOf rows
 unfolding filledOf
-filled-all rows few = filled-first rows (length rows) (le-refl (length rows)) few ∙ ap (λ (t : List Row). numbersOf t ++ replicate (96 - 3 * length rows) 0) (take-length rows)
+filled-all rows few =
+    filled-first rows (length rows) (le-refl (length rows)) few
+    ∙ ap (λ (t : List Row). numbersOf t ++ zeros (length rows)) (take-length rows)
 
 -- ---- the numbers are read back as the rows
 pub length-numbersOf : (rows : List Row) → length (numbersOf rows) ≡ 3 * length rows
@@ -80,11 +92,14 @@ whole-numbersOf : (rows : List Row) → wholeRows (numbersOf rows) ≡ true
 whole-numbersOf rows = rw (length-numbersOf rows, three-whole (length rows)) refl
 
 pub aloneOn-numbersOf : (rows : List Row) (own limit : ℕ) → aloneOn (numbersOf rows) own limit ≡ alone rows own limit
-aloneOn-numbersOf rows own limit = alone-on (numbersOf rows) own limit (whole-numbersOf rows) ∙ ap (λ (t : List Row). alone t own limit) (rowsOf-numbersOf rows)
+aloneOn-numbersOf rows own limit =
+    alone-on (numbersOf rows) own limit (whole-numbersOf rows) ∙ ap (λ (t : List Row). alone t own limit) (rowsOf-numbersOf rows)
 
 -- the answer on the part of the array that the rows fill
-pub aloneOn-filledOf : (rows : List Row) (own limit : ℕ) → aloneOn (take (3 * length rows) (filledOf rows)) own limit ≡ alone rows own limit
+pub aloneOn-filledOf : (rows : List Row) (own limit : ℕ)
+    → aloneOn (take (3 * length rows) (filledOf rows)) own limit ≡ alone rows own limit
 unfolding filledOf
 aloneOn-filledOf rows own limit =
     ap (λ (k : ℕ). aloneOn (take k (filledOf rows)) own limit) (sym (length-numbersOf rows))
-    ∙ ap (λ (t : List ℕ). aloneOn t own limit) (take-append-seam (numbersOf rows) (replicate (96 - 3 * length rows) 0)) ∙ aloneOn-numbersOf rows own limit
+    ∙ ap (λ (t : List ℕ). aloneOn t own limit) (take-append-seam (numbersOf rows) (zeros (length rows)))
+    ∙ aloneOn-numbersOf rows own limit

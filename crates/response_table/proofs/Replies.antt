@@ -17,6 +17,7 @@ pub first-over : (rows : List Row) (n own limit : ℕ) → mostRows < n → refu
 unfolding aloneOfFirst
 first-over rows n own limit more = rw (lt-leb n mostRows more, aloneOfFirst)
 
-pub first-within : (rows : List Row) (n own limit : ℕ) → n ≤ mostRows → alone (take n rows) own limit ≡ aloneOfFirst rows n own limit
+pub first-within : (rows : List Row) (n own limit : ℕ) → n ≤ mostRows
+    → alone (take n rows) own limit ≡ aloneOfFirst rows n own limit
 unfolding aloneOfFirst
 first-within rows n own limit few = rw (le-leb n mostRows few, aloneOfFirst)

@@ -1,4 +1,4 @@
--- The types that the walks meet, with their laws: a row, a reply, the array of 96 numbers, the array of 32 rows, a lent slice of rows.
+-- The types that the walks meet, with their laws: a row, a reply, the array of 96 numbers, that of 32 rows, a lent slice of rows.
 use mathlib.Core.Path.{refl}
 use Prim.Native.Nat.{ℕ, zero, suc}
 use mathlib.Core.List.{List, [], _∷_}
@@ -74,7 +74,7 @@ Rows κ = ShrSlice (named 0) κ aRow
 abbrev pub rowsTy : Ty
 rowsTy = sliceTy (tyRef (named 0) imm (pointee (aRow .written)))
 
-module _ {M : Type 1} (𝓤 : URA M) (H : Heap 𝓤) (A : Atoms 𝓤) (W : Given 𝓤 H A) where
+module _ {M : Type 1} {𝓤 : URA M} {H : Heap 𝓤} {A : Atoms 𝓤} (W : Given 𝓤 H A) where
   abbrev pub row-makes : Makes 𝓤 H A aRow (Is aRow)
   row-makes = LL.makes T.the-type T′.the-plain 𝓤 H A
 

@@ -14,7 +14,8 @@ array-share-prefix-numbers : tie.Need-array-share-prefix-numbers
 array-share-prefix-numbers c = search needs
 
 slice-aggregate-response-alone : tie.Need-slice-aggregate-response-alone
-slice-aggregate-response-alone c = sym (length-take-le (3 * c .before .args .n) (c .before .args .t1) (array-share-prefix-numbers (c .before)))
+slice-aggregate-response-alone c =
+    sym (length-take-le (3 * c .before .args .n) (c .before .args .t1) (array-share-prefix-numbers (c .before)))
 
 response-alone-requires : tie.Need-response-alone-requires
 response-alone-requires c κs = search needs
@@ -23,4 +24,5 @@ returns : tie.Need-returns
 returns c = search needs
 
 pub answer-spec : {M : Type 1} → statement M
-answer-spec = tie.close (tie.spec mul-numbers array-share-prefix-numbers slice-aggregate-response-alone response-alone-requires returns)
+answer-spec =
+    tie.close (tie.spec mul-numbers array-share-prefix-numbers slice-aggregate-response-alone response-alone-requires returns)
