@@ -1,7 +1,7 @@
 -- Document 01's figures hold. Computed from the definitions.
 use mathlib.Core.Path.{refl}
 use Rattle.response.specs.Need.{ceil, work, need, packets, start}
-use Rattle.response.specs.Numbers.{rowsOf, rowsInRange}
+use Rattle.response.specs.Numbers.{rowsIn, rowsInRange}
 use Rattle.response.specs.Trials.{lengthAfter, tried, response}
 use Rattle.response.specs.Alone.{aloneOn, alone as aloneBelow}
 use Rattle.folds.specs.Folds.{every, firstNot, sumTo}
@@ -19,6 +19,6 @@ use Rattle.figures.specs.Table.{Hold, figures}
 
 pub figures-hold : Hold figures
 unfolding figures network rowsWritten withTable afterOffer atSlot alone besides17 place opening offering linkWritten linksWritten
-    placesWritten offered firstFailed every firstNot sumTo joins reservedOf reservedAlong eight rowsTo smallest rowsOf rowsInRange
+    placesWritten offered firstFailed every firstNot sumTo joins reservedOf reservedAlong eight rowsTo smallest rowsIn rowsInRange
     lengthAfter tried response aloneOn aloneBelow ceil work need packets start
 figures-hold = refl

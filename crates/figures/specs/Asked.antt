@@ -7,7 +7,7 @@ use mathlib.Core.List.{List, [], _∷_, _++_}
 use lib.Dec.{eqb}
 use lib.ListN.{replicate}
 use Rattle.response.specs.declared.Row.{Row}
-use Rattle.response.specs.Numbers.{rowsOf}
+use Rattle.response.specs.Numbers.{rowsIn}
 use Rattle.response.specs.Alone.{aloneOn, valuesOf as valuesAlone, Values as Alone}
 use Rattle.store.specs.Layout.{Store, storeLength, channelsOf, messagesOf, withLinks, withChannels, withClock, withRows}
 use Rattle.setup_list.specs.List.{linksIn}
@@ -47,7 +47,7 @@ rowsWritten w l b k (x ∷ rest) = rowsWritten (withChannel w l b k x) l b (suc 
 
 -- a network without channels gets rows on link l, "of C, p and delay, highest priority first", with burst b
 unfoldable pub withTable : Lent → (l b : ℕ) → (rows : List ℕ) → Lent
-withTable (lent w) l b rows = lent (rowsWritten w l b 0 (rowsOf rows))
+withTable (lent w) l b rows = lent (rowsWritten w l b 0 (rowsIn rows))
 
 -- an accepted message of one packet on channel 0, and the present slot
 unfoldable pub afterOffer : Lent → Lent

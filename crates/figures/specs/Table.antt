@@ -4,7 +4,7 @@ use mathlib.Core.Path.{_≡_}
 use mathlib.Core.List.{List, [], _∷_, map}
 use lib.ListN.{take, drop}
 use Rattle.response.specs.Need.{need, start}
-use Rattle.response.specs.Numbers.{rowsOf}
+use Rattle.response.specs.Numbers.{rowsIn}
 use Rattle.response.specs.Trials.{lengthAfter}
 use Rattle.open_rules.specs.Request.{Request}
 use Rattle.open_rules.specs.Open.{Values as Opening}
@@ -63,7 +63,7 @@ figures =
     -- *p = 9 is refusal 8." The lowest place is the one after two rows.
     record { given = place (oneLink high) 3 10 ∷ []; printed = 2 ∷ [] }
     ∷ record {
-      given = map (lengthAfter (need 3 (rowsOf high)) (start 3 (rowsOf high))) (0 ∷ 1 ∷ 2 ∷ 3 ∷ 4 ∷ []);
+      given = map (lengthAfter (need 3 (rowsIn high)) (start 3 (rowsIn high))) (0 ∷ 1 ∷ 2 ∷ 3 ∷ 4 ∷ []);
       printed = 6 ∷ 7 ∷ 9 ∷ 10 ∷ 10 ∷ [];
     }
     ∷ record { given = alone high 3 10 .response ∷ alone high 3 10 .trials ∷ []; printed = 10 ∷ 4 ∷ [] }

@@ -11,7 +11,7 @@ use Rattle.kinds.proofs.Laws.{within-true}
 use Rattle.response.specs.declared.Row.{Row}
 use Rattle.response.specs.declared.Answer.{Answer}
 use Rattle.response.specs.declared.Answer.the-variants.{Found, Nothing}
-use Rattle.response.specs.Numbers.{rowsOf as rowsIn, Workable}
+use Rattle.response.specs.Numbers.{rowsIn, Workable}
 use Rattle.response.specs.Trials.{response}
 use Rattle.response.proofs.Laws.Numbers.{rowAt as rowIn}
 use Rattle.store.specs.Layout.{Store, numberAt, linksOf, rowsOf}

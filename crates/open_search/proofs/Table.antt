@@ -8,7 +8,7 @@ use lib.ListN.{length, take, drop, set, length-set}
 use lib.Seq.{getD-set-same, getD-set-other}
 use Rattle.kinds.specs.Ranges.{mostRows}
 use Rattle.response.specs.declared.Row.{Row}
-use Rattle.response.specs.Numbers.{rowsOf as rowsIn}
+use Rattle.response.specs.Numbers.{rowsIn}
 use Rattle.response.proofs.Laws.Numbers.{rowAt as rowIn}
 use Rattle.store.specs.Layout.{Store, numberAt, rowsOf, rowChannelOf, rowPlaceOf, cOf, pOf, delayOf}
 use Rattle.folds.proofs.Folds.{below}

@@ -9,7 +9,7 @@ use Rattle.response.specs.declared.Answer.the-variants.{Found, Nothing}
 use Rattle.response.specs.declared.Reply.{Reply}
 use Rattle.response.specs.declared.Reply.the-variants.{Answered, Refused}
 use Rattle.response.specs.Trials.{response}
-use Rattle.response.specs.Numbers.{rowsOf, wholeRows, rowsInRange}
+use Rattle.response.specs.Numbers.{rowsIn, wholeRows, rowsInRange}
 
 -- 18 is "given exactly when" this is false: "over 32 rows, a row's C or p, or the limit or own C, out of range";
 -- "the limit in 18 has p's range"
@@ -25,10 +25,10 @@ alone rows own limit = elim (askable rows own limit) [ true ↦ Answered (respon
 
 -- the answer to the call on numbers, three a row: a part of a row left over is refused too
 unfoldable pub aloneOn : List ℕ → (own limit : ℕ) → Reply
-aloneOn numbers own limit = elim (wholeRows numbers) [ true ↦ alone (rowsOf numbers) own limit | false ↦ refused18 ]
+aloneOn numbers own limit = elim (wholeRows numbers) [ true ↦ alone (rowsIn numbers) own limit | false ↦ refused18 ]
 
 abbrev pub askableOn : List ℕ → (own limit : ℕ) → Bool
-askableOn numbers own limit = wholeRows numbers && askable (rowsOf numbers) own limit
+askableOn numbers own limit = wholeRows numbers && askable (rowsIn numbers) own limit
 
 -- Each case of the answer in document 01's numbers: the refusal's number and place, 0 and 0 where the call ran; the
 -- response, 0 where there is none (a response is at least 1); the number of trials. A refusal writes no output:

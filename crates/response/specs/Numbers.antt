@@ -9,11 +9,11 @@ use Rattle.kinds.specs.Ranges.{inRangeC, inRangeP}
 use Rattle.response.specs.declared.Row.{Row}
 
 -- the rows that stand whole in the numbers
-unfoldable pub rowsOf : List ℕ → List Row
-rowsOf [] = []
-rowsOf (c ∷ []) = []
-rowsOf (c ∷ (p ∷ [])) = []
-rowsOf (c ∷ (p ∷ (delay ∷ rest))) = record { c = c; p = p; delay = delay } ∷ rowsOf rest
+unfoldable pub rowsIn : List ℕ → List Row
+rowsIn [] = []
+rowsIn (c ∷ []) = []
+rowsIn (c ∷ (p ∷ [])) = []
+rowsIn (c ∷ (p ∷ (delay ∷ rest))) = record { c = c; p = p; delay = delay } ∷ rowsIn rest
 
 -- no part of a row is left over
 abbrev pub wholeRows : List ℕ → Bool
@@ -33,6 +33,6 @@ abbrev pub roomy : ℕ
 roomy = 4096
 
 pub record Workable (table : List ℕ) (own : ℕ) : Type 0 where
-  pub ranged : rowsInRange (rowsOf table) ≡ true
+  pub ranged : rowsInRange (rowsIn table) ≡ true
   pub short : length table ≤ roomy
   pub small : own ≤ roomy

@@ -8,7 +8,7 @@ ghost use Prim.Native.Nat.{_≤_};
 ghost use Rattle.kinds.specs.Ranges.{mostP};
 ghost use Rattle.response.specs.Need.{need as needOf, start as startOf};
 ghost use Rattle.response.specs.Trials.{response as responseOf};
-ghost use Rattle.response.specs.Numbers.{rowsOf, rowsInRange, Workable};
+ghost use Rattle.response.specs.Numbers.{rowsIn, rowsInRange, Workable};
 ghost use Rattle.response.specs.Alone.{askableOn, aloneOn};
 
 // A row of a link's table: at most `c` packets every `p` slots, each message through within `delay` slots.
@@ -34,7 +34,7 @@ pub enum Reply {
 // The length at which the trials start: `own` and every C of the table.
 fn start(table: &[u64], own: u64) -> u64
     requires { ⌜ Workable (now table) own ⌝ }
-    ensures { λ r. ⌜ r ≡ startOf own (rowsOf (now (table .entry))) ⌝ }
+    ensures { λ r. ⌜ r ≡ startOf own (rowsIn (now (table .entry))) ⌝ }
 {
     let mut length = own;
     let mut at: usize = 0;
@@ -49,7 +49,7 @@ fn start(table: &[u64], own: u64) -> u64
 fn need(table: &[u64], own: u64, r: u64) -> u64
     requires { ⌜ Workable (now table) own ⌝ }
     requires { ⌜ r ≤ mostP ⌝ }
-    ensures { λ n. ⌜ n ≡ needOf own (rowsOf (now (table .entry))) r ⌝ }
+    ensures { λ n. ⌜ n ≡ needOf own (rowsIn (now (table .entry))) r ⌝ }
 {
     let mut sum = own;
     let mut at: usize = 0;
@@ -68,7 +68,7 @@ fn need(table: &[u64], own: u64, r: u64) -> u64
 pub fn response_under(table: &[u64], own: u64, limit: u64) -> Answer
     requires { ⌜ Workable (now table) own ⌝ }
     requires { ⌜ limit ≤ mostP ⌝ }
-    ensures { λ a. ⌜ a ≡ responseOf own (rowsOf (now (table .entry))) limit ⌝ }
+    ensures { λ a. ⌜ a ≡ responseOf own (rowsIn (now (table .entry))) limit ⌝ }
 {
     let mut r = start(table, own);
     let mut trials: u64 = 0;
@@ -85,7 +85,7 @@ pub fn response_under(table: &[u64], own: u64, limit: u64) -> Answer
 
 // Whether every row's C and p are in range.
 fn rows_in_range(table: &[u64]) -> bool
-    ensures { λ r. ⌜ r ≡ rowsInRange (rowsOf (now (table .entry))) ⌝ }
+    ensures { λ r. ⌜ r ≡ rowsInRange (rowsIn (now (table .entry))) ⌝ }
 {
     let mut at: usize = 0;
     while at + 2 < table.len() {

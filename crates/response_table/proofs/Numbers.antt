@@ -9,7 +9,7 @@ use mathlib.Core.Bool.{true}
 use lib.ListN.{length, replicate, take, getD}
 use lib.Seq.{length-take-le, take-suc, take-length, take-append-seam}
 use Rattle.response.specs.declared.Row.{Row}
-use Rattle.response.specs.Numbers.{rowsOf, wholeRows}
+use Rattle.response.specs.Numbers.{rowsIn, wholeRows}
 use Rattle.response.specs.Alone.{alone, aloneOn}
 use Rattle.response.proofs.Laws.Alone.{alone-on}
 use Rattle.response_table.specs.Rows.{zeroRow, numbersOf, filledOf, withRow}
@@ -80,10 +80,10 @@ unfolding numbersOf
 length-numbersOf [] = refl
 length-numbersOf (x ∷ rows) = omega (arith, length-numbersOf rows)
 
-pub rowsOf-numbersOf : (rows : List Row) → rowsOf (numbersOf rows) ≡ rows
-unfolding rowsOf numbersOf
-rowsOf-numbersOf [] = refl
-rowsOf-numbersOf (x ∷ rows) = ap (λ (t : List Row). x ∷ t) (rowsOf-numbersOf rows)
+pub rowsIn-numbersOf : (rows : List Row) → rowsIn (numbersOf rows) ≡ rows
+unfolding rowsIn numbersOf
+rowsIn-numbersOf [] = refl
+rowsIn-numbersOf (x ∷ rows) = ap (λ (t : List Row). x ∷ t) (rowsIn-numbersOf rows)
 
 three-whole : (n : ℕ) → (3 * n) % 3 ≡ 0
 three-whole n = omega arith
@@ -93,7 +93,7 @@ whole-numbersOf rows = rw (length-numbersOf rows, three-whole (length rows)) ref
 
 pub aloneOn-numbersOf : (rows : List Row) (own limit : ℕ) → aloneOn (numbersOf rows) own limit ≡ alone rows own limit
 aloneOn-numbersOf rows own limit =
-    alone-on (numbersOf rows) own limit (whole-numbersOf rows) ∙ ap (λ (t : List Row). alone t own limit) (rowsOf-numbersOf rows)
+    alone-on (numbersOf rows) own limit (whole-numbersOf rows) ∙ ap (λ (t : List Row). alone t own limit) (rowsIn-numbersOf rows)
 
 -- the answer on the part of the array that the rows fill
 pub aloneOn-filledOf : (rows : List Row) (own limit : ℕ)

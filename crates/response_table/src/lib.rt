@@ -20,7 +20,7 @@ fn row_at(rows: &[Row], i: usize) -> Row
 }
 
 // The numbers with the three of `row` in place i.
-fn with_row(numbers: [u64; 96], i: usize, row: Row) -> [u64; 96]
+fn with_row(numbers: [u64; 3 * Link::MOST_ROWS], i: usize, row: Row) -> [u64; 3 * Link::MOST_ROWS]
     requires { ⌜ i < mostRows ⌝ }
     ensures { λ r. ⌜ r ≡ withRow numbers i row ⌝ }
 {
@@ -32,11 +32,11 @@ fn with_row(numbers: [u64; 96], i: usize, row: Row) -> [u64; 96]
 }
 
 // C, p and delay of each row in turn, then zeros.
-fn numbers_of(rows: &[Row]) -> [u64; 96]
+fn numbers_of(rows: &[Row]) -> [u64; 3 * Link::MOST_ROWS]
     requires { ⌜ length (now rows) ≤ mostRows ⌝ }
     ensures { λ r. ⌜ r ≡ filledOf (now (rows .entry)) ⌝ }
 {
-    let mut numbers = [0u64; 96];
+    let mut numbers = [0u64; 3 * Link::MOST_ROWS];
     let mut i = 0;
     while i < rows.len() {
         numbers = with_row(numbers, i, row_at(rows, i));
@@ -46,7 +46,7 @@ fn numbers_of(rows: &[Row]) -> [u64; 96]
 }
 
 // The call by itself on the first n rows of the numbers.
-fn answer(numbers: [u64; 96], n: usize, own: u64, limit: u64) -> Reply
+fn answer(numbers: [u64; 3 * Link::MOST_ROWS], n: usize, own: u64, limit: u64) -> Reply
     requires { ⌜ n ≤ mostRows ⌝ }
     ensures { λ r. ⌜ r ≡ aloneOn (take (3 * n) numbers) own limit ⌝ }
 {

@@ -8,11 +8,11 @@ use Rattle.open_checks.proofs as open-checks
 use Rattle.open.proofs as opening
 use Rattle.open_rules.specs.Shares.{eight}
 use Rattle.unique.specs.Unique.{Unique}
-use Rattle.unique.proofs.Shapes.{whole, _&_, from, answer, first, fifth}
+use Rattle.unique.proofs.Shapes.{whole, _&_, from, answer, first, fourth}
 
 -- what the buffer holds is said by the answer, which the first clause fixes
 pub open-search-responses : Unique open-search.responses.ended open-search.responses.Reads.Post
-open-search-responses κs a = whole (from (λ o h. (h .0, h .1 ∙ ap (eight _) (h .0))) (answer & fifth))
+open-search-responses κs a = whole (from (λ o h. (h .0, h .1 ∙ ap (eight _) (h .0))) (answer & fourth))
 
 pub open-shares-total : Unique open-shares.total.ended open-shares.total.Reads.Post
 open-shares-total κs a = whole answer

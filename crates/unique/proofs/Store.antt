@@ -163,6 +163,9 @@ store-route-parted-link κs a = whole answer
 pub store-route-passes : Unique store-route.passes.ended store-route.passes.Reads.Post
 store-route-passes κs a = whole answer
 
+pub store-route-later-reserved : Unique store-route.later_reserved.ended store-route.later_reserved.Reads.Post
+store-route-later-reserved κs a = whole answer
+
 pub store-route-reserved : Unique store-route.reserved.ended store-route.reserved.Reads.Post
 store-route-reserved κs a = whole answer
 

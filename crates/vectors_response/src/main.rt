@@ -1,5 +1,5 @@
 // Worked responses: each line is a question to the response-time calculation and the library's answer.
-// tests/response.rs works out every answer again from the question that stands on its line.
+// tests/programs/response.rs works out every answer again from the question that stands on its line.
 use kinds::Link;
 use libc::STDOUT_FILENO;
 use response::Answer;

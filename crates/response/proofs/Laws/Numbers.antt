@@ -13,7 +13,7 @@ use Rattle.kinds.specs.Ranges.{inRangeC, inRangeP, mostC, mostP}
 use Rattle.kinds.proofs.Laws.{within-true}
 use Rattle.response.specs.declared.Row.{Row}
 use Rattle.response.specs.Need.{ceil, Spaced}
-use Rattle.response.specs.Numbers.{rowsOf, rowInRange, rowsInRange, roomy, Workable}
+use Rattle.response.specs.Numbers.{rowsIn, rowInRange, rowsInRange, roomy, Workable}
 use Rattle.response.proofs.Laws.Need.{ceil-self}
 
 -- the row whose C stands at place `at`
@@ -22,18 +22,18 @@ rowAt t at = record { c = getD t at 0; p = getD t (at + 1) 0; delay = getD t (at
 
 -- the rows from place `at` on
 abbrev pub rest : List ℕ → ℕ → List Row
-rest t at = rowsOf (drop at t)
+rest t at = rowsIn (drop at t)
 
 pub rest-row : (t : List ℕ) (at : ℕ) → at + 2 < length t → rest t at ≡ rowAt t at ∷ rest t (at + 3)
-unfolding rowsOf
+unfolding rowsIn
 rest-row t at h =
     let a : at < length t = omega arith in
     let b : suc at < length t = omega arith in
     let d : suc (suc at) < length t = omega arith in
     rw (add-one at, add-two at, add-three at, drop-cons t at 0 a, drop-cons t (suc at) 0 b, drop-cons t (suc (suc at)) 0 d)
 
-short-none : (t : List ℕ) → length t ≤ 2 → rowsOf t ≡ []
-unfolding rowsOf
+short-none : (t : List ℕ) → length t ≤ 2 → rowsIn t ≡ []
+unfolding rowsIn
 short-none [] h = refl
 short-none (c ∷ []) h = refl
 short-none (c ∷ (p ∷ [])) h = refl
@@ -43,8 +43,8 @@ pub rest-none : (t : List ℕ) (at : ℕ) → length t ≤ at + 2 → rest t at 
 rest-none t at h = short-none (drop at t) (simp length-drop (omega arith))
 
 -- three numbers a row
-pub rows-count : (t : List ℕ) → length (rowsOf t) ≡ length t / 3
-unfolding rowsOf
+pub rows-count : (t : List ℕ) → length (rowsIn t) ≡ length t / 3
+unfolding rowsIn
 rows-count [] = refl
 rows-count (c ∷ []) = refl
 rows-count (c ∷ (p ∷ [])) = refl
@@ -86,27 +86,27 @@ ranged-spaced (x ∷ rows) e =
 -- A loop that looks at each row: what is left decides.
 pub record Looking (t : List ℕ) (at : ℕ) : Type 0 where
   pub place : at ≤ length t
-  pub same : rowsInRange (rowsOf t) ≡ rowsInRange (rest t at)
+  pub same : rowsInRange (rowsIn t) ≡ rowsInRange (rest t at)
 
 -- what the first row left comes to: the test of its C, then that of its p, then what is left after it
 pub looking-at : (t : List ℕ) (at : ℕ) → Looking t at → at + 2 < length t
-    → rowsInRange (rowsOf t) ≡ (rowInRange (rowAt t at) && rowsInRange (rest t (at + 3)))
+    → rowsInRange (rowsIn t) ≡ (rowInRange (rowAt t at) && rowsInRange (rest t (at + 3)))
 unfolding rowsInRange
 looking-at t at l h = l .same ∙ ap rowsInRange (rest-row t at h)
 
 pub looking-bad-c : (t : List ℕ) (at : ℕ) → Looking t at → at + 2 < length t → inRangeC (getD t at 0) ≡ false
-    → false ≡ rowsInRange (rowsOf t)
+    → false ≡ rowsInRange (rowsIn t)
 looking-bad-c t at l h c = rw (looking-at t at l h, c)
 
 pub looking-bad-p : (t : List ℕ) (at : ℕ) → Looking t at → at + 2 < length t → inRangeC (getD t at 0) ≡ true
-    → inRangeP (getD t (at + 1) 0) ≡ false → false ≡ rowsInRange (rowsOf t)
+    → inRangeP (getD t (at + 1) 0) ≡ false → false ≡ rowsInRange (rowsIn t)
 looking-bad-p t at l h c p = rw (looking-at t at l h, c, p)
 
 pub looking-more : (t : List ℕ) (at : ℕ) → Looking t at → at + 2 < length t → inRangeC (getD t at 0) ≡ true
     → inRangeP (getD t (at + 1) 0) ≡ true → Looking t (at + 3)
 looking-more t at l h c p = record { place = omega arith; same = rw (looking-at t at l h, c, p) }
 
-pub looking-done : (t : List ℕ) (at : ℕ) → Looking t at → length t ≤ at + 2 → rowsInRange (rowsOf t) ≡ true
+pub looking-done : (t : List ℕ) (at : ℕ) → Looking t at → length t ≤ at + 2 → rowsInRange (rowsIn t) ≡ true
 unfolding rowsInRange
 looking-done t at l h = l .same ∙ ap rowsInRange (rest-none t at h)
 
@@ -114,7 +114,7 @@ looking-done t at l h = l .same ∙ ap rowsInRange (rest-none t at h)
 -- rows left will add are the whole. `most` bounds what one row adds.
 pub record Adding (total : List Row → ℕ) (most : ℕ) (t : List ℕ) (own sum at : ℕ) : Type 0 where
   pub place : at ≤ length t
-  pub whole : sum + total (rest t at) ≡ own + total (rowsOf t)
+  pub whole : sum + total (rest t at) ≡ own + total (rowsIn t)
   pub bound : sum ≤ roomy + most * at
   pub ranged : rowsInRange (rest t at) ≡ true
 
@@ -134,5 +134,5 @@ module _ (total : List Row → ℕ) (most : ℕ) (t : List ℕ) (own : ℕ) wher
       }
 
   pub adding-done : (sum at : ℕ) → Adding total most t own sum at → length t ≤ at + 2 → total [] ≡ 0
-      → sum ≡ own + total (rowsOf t)
+      → sum ≡ own + total (rowsIn t)
   adding-done sum at a h e = omega (arith, a .whole, ap total (rest-none t at h), e)

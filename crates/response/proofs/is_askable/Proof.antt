@@ -8,7 +8,7 @@ use borrow.Author.Needs.{needs}
 use borrow.Author.Tests.{not-true, not-false, eq-eqb, ne-eqb}
 use Rattle.kinds.proofs.Laws.{refuted, held}
 use Rattle.kinds.specs.Ranges.{inRangeC, inRangeP, inRangeRows}
-use Rattle.response.specs.Numbers.{rowsOf, wholeRows}
+use Rattle.response.specs.Numbers.{rowsIn, wholeRows}
 use Rattle.response.proofs.Laws.Numbers.{rows-count}
 use Rattle.response.proofs.is_askable.Statement.{statement}
 use Rattle.response.proofs.is_askable.Tie as tie
@@ -21,10 +21,10 @@ whole : (c : tie.Else1) → wholeRows (numbers (c .before .before)) ≡ true
 whole c = eq-eqb _ _ (c .if1 .left)
 
 rows : (c : tie.After-rows-fit)
-    → inRangeRows (length (rowsOf (numbers (c .before .before .before)))) ≡ c .rows-fit .result
+    → inRangeRows (length (rowsIn (numbers (c .before .before .before)))) ≡ c .rows-fit .result
 rows c = ap inRangeRows (rows-count _) ∙ sym (c .rows-fit .ensures)
 
-few : (c : tie.Else2) → inRangeRows (length (rowsOf (numbers (c .before .before .before .before)))) ≡ true
+few : (c : tie.Else2) → inRangeRows (length (rowsIn (numbers (c .before .before .before .before)))) ≡ true
 few c = rows (c .before) ∙ not-false _ (c .if2 .left)
 
 ownC : (c : tie.Else3) → inRangeC (c .before .before .before .before .before .before .args .own) ≡ true

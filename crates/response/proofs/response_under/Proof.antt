@@ -3,7 +3,7 @@ use Prim.Native.Nat.{suc, _-_}
 use native.Mathlib.Omega.{arith}
 use borrow.Author.Needs.{needs}
 use Rattle.response.specs.Need.{need, start, Spaced}
-use Rattle.response.specs.Numbers.{rowsOf}
+use Rattle.response.specs.Numbers.{rowsIn}
 use Rattle.response.specs.Trials.{response}
 use Rattle.response.proofs.Laws.Need.{need-mono, start-rises}
 use Rattle.response.proofs.Laws.Trials.{Trying, trying-none, trying-equal, trying-less, trying-on, trying-passed}
@@ -12,13 +12,13 @@ use Rattle.response.proofs.response_under.Statement.{statement}
 use Rattle.response.proofs.response_under.Tie as tie
 
 abbrev Inv-loop : tie.InvT-loop
-Inv-loop table own limit r₀ trials₀ r trials = Trying (need own (rowsOf table)) limit (start own (rowsOf table)) r trials
+Inv-loop table own limit r₀ trials₀ r trials = Trying (need own (rowsIn table)) limit (start own (rowsIn table)) r trials
 
 abbrev μ-loop : tie.MeasureT-loop
 μ-loop table own limit r₀ trials₀ r trials = suc limit - r
 
 -- the rows are at least a slot apart, as the function requires
-spaced : (c : tie.Start Inv-loop μ-loop) → Spaced (rowsOf (c .args .table .now))
+spaced : (c : tie.Start Inv-loop μ-loop) → Spaced (rowsIn (c .args .table .now))
 spaced c = ranged-spaced _ (c .pre .0 .ranged)
 
 start-requires : tie.Need-start-requires Inv-loop μ-loop
