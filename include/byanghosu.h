@@ -140,8 +140,8 @@ uint64_t byanghosu_open(uint64_t *store, size_t length, uint64_t c, uint64_t p, 
  *
  * Returns, in the order in which they are looked at: 17 for a store that is not sound, 14 for a clock at the end slot, 11 where
  * there is no such channel, 12 for 0 packets or more than C, 13 for a logical time more than (B - 1) * p slots from now, and 17
- * where the store would not be sound with the message in it, which set-up and the calls since are meant never to lead to. A
- * refused call leaves the store as it was; `place` is always 0. */
+ * where the store would not be sound with the message in it, which never happens to a store that only these calls have written
+ * since its set-up. A refused call leaves the store as it was; `place` is always 0. */
 uint64_t byanghosu_offer(uint64_t *store, size_t length, uint64_t channel, uint64_t packets, uint64_t *message,
                          uint64_t *logical, uint64_t *place);
 
@@ -154,8 +154,8 @@ uint64_t byanghosu_offer(uint64_t *store, size_t length, uint64_t channel, uint6
  *
  * Returns how many sends there are, 0 on a refusal. Refused, in the order in which they are looked at: 17 for a store that is not
  * sound, 14 for a clock at the end slot, 15 for an `out` with room for fewer sends than there are links, and 17 where the store
- * would not be sound after the slot, which set-up and the calls since are meant never to lead to. A refused call leaves the
- * store and `out` as they were; `place` is always 0. */
+ * would not be sound after the slot, which never happens to a store that only these calls have written since its set-up. A
+ * refused call leaves the store and `out` as they were; `place` is always 0. */
 size_t byanghosu_slot(uint64_t *store, size_t length, uint64_t *out, size_t room, uint64_t *number, uint64_t *place);
 
 /* Long waits: how many slots from now no link can send in, if nothing is offered until then. All that are left up to the end slot
