@@ -1,6 +1,6 @@
 // What the router's control board calls, from C: numbers and lent buffers only. include/byanghosu.h declares it.
-// A call that can be refused returns the refusal number of document 01, or 0 where it ran, and a refused call writes no output but
-// `place`; a slot gives back its sends, and its number is lent, as document 01 has it.
+// A call that can be refused returns the refusal number of document 01, or 0 where it ran, and a refused call writes no output
+// but `place`; a slot gives back its sends, and its number is lent, as document 01 has it.
 use kinds::Route;
 use offer_rules::Offered;
 use open_rules::Outcome;
@@ -27,7 +27,12 @@ pub extern "C" fn byanghosu_response(
     trials: &mut u64,
     place: &mut u64,
 ) -> u64
-    ensures { λ r. ⌜ record { number = r; place = now (place .exit); response = now (response .exit); trials = now (trials .exit) }
+    ensures { λ r. ⌜ record {
+      number = r;
+      place = now (place .exit);
+      response = now (response .exit);
+      trials = now (trials .exit);
+    }
         ≡ valuesOf (aloneOn (now (table .entry)) own limit) (now (response .entry)) (now (trials .entry)) ⌝ }
 {
     let reply = response::response_alone(table, own, limit);
@@ -56,7 +61,8 @@ pub extern "C" fn byanghosu_response(
 // Network set-up in the lent store. `links` has from, to, horizon and buffer of each link in turn.
 #[no_mangle]
 pub extern "C" fn byanghosu_set_up(store: &mut [u64], links: &[u64], place: &mut u64) -> u64
-    ensures { λ r. ⌜ record { number = r; place = now (place .exit) } ≡ setUpValues (setUpAnswer (now (store .entry)) (now (links .entry))) ⌝ }
+    ensures { λ r. ⌜ record { number = r; place = now (place .exit) }
+        ≡ setUpValues (setUpAnswer (now (store .entry)) (now (links .entry))) ⌝ }
     ensures { λ _. ⌜ now (store .exit) ≡ setUpStore (now (store .entry)) (now (links .entry)) ⌝ }
 {
     let answer = setup::set_up(store, links);
@@ -96,8 +102,10 @@ pub extern "C" fn byanghosu_open(
       delays = now (delays .exit);
       reserved = now (reserved .exit);
     }
-        ≡ openValues (openAnswer (now (store .entry)) (record { c = c; p = p; d = d; b = b; route = now (route .entry) })) (now (channel .entry)) ⌝ }
-    ensures { λ _. ⌜ now (store .exit) ≡ openStore (now (store .entry)) (record { c = c; p = p; d = d; b = b; route = now (route .entry) }) ⌝ }
+        ≡ openValues (openAnswer (now (store .entry)) (record { c = c; p = p; d = d; b = b; route = now (route .entry) }))
+        (now (channel .entry)) ⌝ }
+    ensures { λ _. ⌜ now (store .exit) ≡ openStore (now (store .entry))
+        (record { c = c; p = p; d = d; b = b; route = now (route .entry) }) ⌝ }
 {
     let opening = open::open(store, c, p, d, b, route);
     let outcome = opening.outcome;
@@ -130,7 +138,12 @@ pub extern "C" fn byanghosu_offer(
     logical: &mut u64,
     place: &mut u64,
 ) -> u64
-    ensures { λ r. ⌜ record { number = r; place = now (place .exit); message = now (message .exit); logical = now (logical .exit) }
+    ensures { λ r. ⌜ record {
+      number = r;
+      place = now (place .exit);
+      message = now (message .exit);
+      logical = now (logical .exit);
+    }
         ≡ offerValues (offerAnswer (now (store .entry)) channel packets) (now (message .entry)) (now (logical .entry)) ⌝ }
     ensures { λ _. ⌜ now (store .exit) ≡ offerStore (now (store .entry)) channel packets ⌝ }
 {
@@ -149,8 +162,8 @@ pub extern "C" fn byanghosu_offer(
     }
 }
 
-// Runs a slot and returns the number of its sends, which stand at the front of `out`, five numbers each; `number` and `place` take
-// those of the refusal, or 0 and 0.
+// Runs a slot and returns the number of its sends, which stand at the front of `out`, five numbers each; `number` and `place`
+// take those of the refusal, or 0 and 0.
 #[no_mangle]
 pub extern "C" fn byanghosu_slot(
     store: &mut [u64],

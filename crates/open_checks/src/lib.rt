@@ -17,8 +17,8 @@ ghost use Rattle.checks.specs.Checks.{firstFailed};
 ghost use Rattle.open_checks.specs.declared.Checked.the-variants.{Passed, Refused};
 ghost use Rattle.open_rules.specs.Refusal.{takesRow, earlyChecks};
 
-// What the checks leave of a request: the number that its channel will have, what it asks for, and how many links its route has; or
-// the refusal's number and place.
+// What the checks leave of a request: the number that its channel will have, what it asks for, and how many links its route has;
+// or the refusal's number and place.
 pub enum Checked {
     Refused(u64, u64),
     Passed(usize, Channel, Route),

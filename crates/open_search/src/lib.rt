@@ -24,7 +24,8 @@ ghost use Rattle.open_search.specs.Table.{tableWritten};
 fn put_rows(store: &[u64], l: usize, table: &mut [u64; 3 * Link::MOST_ROWS + 3])
     requires { ⌜ soundOf (now store) ≡ true ⌝ }
     requires { ⌜ l < linksOf (now store) ⌝ }
-    ensures { λ _. ⌜ now (table .exit) ≡ tableWritten (now (store .entry)) l (now (table .entry)) (rowsOf (now (store .entry)) l) ⌝ }
+    ensures { λ _. ⌜ now (table .exit)
+        ≡ tableWritten (now (store .entry)) l (now (table .entry)) (rowsOf (now (store .entry)) l) ⌝ }
 {
     let rows = link::rows(store, l);
     let mut k: usize = 0;
@@ -39,7 +40,7 @@ fn put_rows(store: &[u64], l: usize, table: &mut [u64; 3 * Link::MOST_ROWS + 3])
     }
 }
 
-// Writes the response at each place of the route, up to the first that has none; that place, or the route's length, is the answer.
+// Writes the response at each place of the route, up to the first that has none; answers that place, or the route's length.
 pub fn responses(
     store: &[u64],
     asked: Channel,
@@ -54,7 +55,8 @@ pub fn responses(
     requires { ⌜ now found ≡ replicate 8 0 ⌝ }
     ensures { λ r. ⌜ r ≡ firstNot (responds (now (store .entry)) (asked .c) (asked .p) (from (now (route .entry)) 0))
         (length (now (route .entry))) ⌝ }
-    ensures { λ r. ⌜ now (found .exit) ≡ eight (responsesOf (now (store .entry)) (asked .c) (asked .p) (from (now (route .entry)) 0)) r ⌝ }
+    ensures { λ r. ⌜ now (found .exit)
+        ≡ eight (responsesOf (now (store .entry)) (asked .c) (asked .p) (from (now (route .entry)) 0)) r ⌝ }
 {
     let c = asked.c;
     let p = asked.p;

@@ -3,9 +3,9 @@
 use Prim.Native.Nat.{ℕ, zero, suc, _+_, _-_, _*_, _/_}
 use Rattle.store.specs.Layout.{Store, bOf, cOf, pOf, hopsOf, messagesOf, routeOf, delayOf, sentOf, endOf, horizonOf}
 
--- "Reserved packets: on the first link B × C. On a later link C × (1 + (h + d' + d − 2) / p), quotient rounded down, with h and d'
--- the horizon and delay of the link before": a later link, and place j of a route, which is given by the link and the delay at
--- each place
+-- "Reserved packets: on the first link B × C. On a later link C × (1 + (h + d' + d − 2) / p), quotient rounded down, with h and
+-- d' the horizon and delay of the link before": a later link, and place j of a route, which is given by the link and the delay
+-- at each place
 abbrev pub laterReserved : (c p h d′ d : ℕ) → ℕ
 laterReserved c p h d′ d = c * (1 + (h + d′ + d - 2) / p)
 

@@ -114,8 +114,8 @@ pub fn passes(store: &[u64], numbers: &[u64], at: usize, n: usize) -> bool
     true
 }
 
-// The packets to be reserved on a link that is not the first of a route: `horizon` and `before` are the horizon and the delay of the
-// link before it, `here` is the delay on it.
+// The packets to be reserved on a link that is not the first of a route: `horizon` and `before` are the horizon and the delay of
+// the link before it, `here` is the delay on it.
 pub fn later_reserved(c: u64, p: u64, horizon: u64, before: u64, here: u64) -> u64
     requires { ⌜ c ≤ mostC ⌝ }
     requires { ⌜ Near p horizon before here ⌝ }

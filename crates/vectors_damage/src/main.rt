@@ -1,7 +1,7 @@
 // Sound stores, damaged one number at a time: that of document 01's listing just set up, and the same three slots on. For
 // every number of the store whose value matters a line is printed: its place, its value, and whether the store is still
-// sound (+) or not (-) with one more, with one less, with 0 and with the largest number there. tests/programs/store.rs works each line
-// out again.
+// sound (+) or not (-) with one more, with one less, with 0 and with the largest number there. tests/programs/store.rs works
+// each line out again.
 use libc::STDOUT_FILENO;
 use store::channel;
 use store::head;

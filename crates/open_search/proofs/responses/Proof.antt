@@ -1,5 +1,5 @@
--- `open_search::responses` meets its contract: at each place passed the new channel has a response, and on one link every row passed
--- has one below the new channel.
+-- `open_search::responses` meets its contract: at each place passed the new channel has a response, and on one link every row
+-- passed has one below the new channel.
 use Prim.Native.Nat.{ℕ, _+_, _-_, _*_, _<_, _≤_}
 use mathlib.Core.Path.{_≡_, refl, ap, sym, _∙_}
 use mathlib.Core.Bool.{Bool}

@@ -20,8 +20,8 @@ mul-result c =
 returns : tie.Need-returns
 returns c =
     let a = c .before .before .before .before .args in
-    sym (along-first (a .store .now) (a .asked .c) (a .asked .p) (a .asked .b) (from (a .route .now) 0) (numberAt (a .delays .now))
-    (a .j) (c .before .if1 .taken))
+    sym (along-first (a .store .now) (a .asked .c) (a .asked .p) (a .asked .b) (from (a .route .now) 0)
+    (numberAt (a .delays .now)) (a .j) (c .before .if1 .taken))
 
 sub-horizon : tie.Need-sub-horizon
 sub-horizon c = search needs
@@ -56,7 +56,8 @@ later-reserved-requires : tie.Need-later-reserved-requires
 later-reserved-requires c κs =
     let h = c .before .before in
     let s = start h in
-    (s .pre .1 .1 .0, near _ _ _ _ (s .pre .0) _ (omega (arith, h .before .before .if1 .left)) (s .pre .1 .0) _ (h .horizon .ensures))
+    let later = h .before .before .if1 .left in
+    (s .pre .1 .1 .0, near _ _ _ _ (s .pre .0) _ (omega (arith, later)) (s .pre .1 .0) _ (h .horizon .ensures))
 
 returns-2 : tie.Need-returns-2
 returns-2 c =

@@ -50,8 +50,9 @@ p-requires c κs = search needs
 later-reserved-requires : tie.Need-later-reserved-requires
 later-reserved-requires c κs =
     let s = start c in
-    let read = near _ _ (s .pre .0) _ (s .pre .1) _ _ _ _ _ (routed c .route .ensures) (c .before .before .before .horizon .ensures)
-    (c .before .before .delay .ensures) (c .before .delay2 .ensures) (c .p .ensures) in
+    let read = near _ _ (s .pre .0) _ (s .pre .1) _ _ _ _ _ (routed c .route .ensures)
+    (c .before .before .before .horizon .ensures) (c .before .before .delay .ensures) (c .before .delay2 .ensures)
+    (c .p .ensures) in
     (rw (routed c .before .before .c .ensures) (s .pre .0 .c-most), read)
 
 returns-2 : tie.Need-returns-2
