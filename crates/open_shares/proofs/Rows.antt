@@ -1,60 +1,34 @@
--- A link of a sound store, its rows and its buffer, as the code reads them.
+-- What is reserved on a link of a sound store, and its buffer, as the code reads them.
 use Prim.Native.Nat.{ℕ, _+_, _≤_, _<_}
 use mathlib.Core.Path.{_≡_}
 use mathlib.Core.Bool.{true, false}
 use mathlib.Core.List.{List}
 use native.Mathlib.Nat.{zero-add, le-trans}
-use native.Mathlib.Omega.{arith}
 use borrow.Author.Tests.{ltb-true, le-leb, lt-leb}
-use Rattle.kinds.specs.Ranges.{mostLinks, mostRows, mostBuffer}
-use Rattle.store.specs.Layout.{Store, numberAt, linksOf, bufferOf, rowsOf, rowChannelOf, rowPlaceOf, hopsOf}
+use Rattle.kinds.specs.Ranges.{mostBuffer}
+use Rattle.store.specs.Layout.{Store, numberAt, linksOf, bufferOf, rowsOf}
 use Rattle.folds.specs.Folds.{every}
 use Rattle.store.specs.Route.{from, exists}
 use Rattle.store.specs.Amounts.{reservedOf}
 use Rattle.store.specs.Sound.{soundOf, rowReservedOf}
-use Rattle.store.specs.Ranged.{Ranged}
 use Rattle.folds.proofs.Folds.{every-at, sum-part}
-use Rattle.store.proofs.Laws.Sound.{Sound, RowIs, sound-is, sound-fit, fit-ranged}
+use Rattle.store.proofs.Laws.Sound.{sound-is}
+use Rattle.store.proofs.Laws.Rows.{Row}
 use Rattle.open_rules.specs.Shares.{takenOf, fitsBuffer}
 
-module _ (w : Store) (e : soundOf w ≡ true) (l : ℕ) (h : l < linksOf w) where
-  s : Sound w
-  s = sound-is w e
+pub taken-most : (w : Store) → soundOf w ≡ true → (l : ℕ) → l < linksOf w → takenOf w l ≤ mostBuffer
+taken-most w e l h =
+    let s = sound-is w e in
+    le-trans (s .rows l h .fits) (s .link l h .good .buffer-most)
 
-  pub link-most : l < mostLinks
-  link-most = omega (arith, s .counts .links-most)
+-- for row k
+module _ {w : Store} {l k x j : ℕ} (r : Row w l k x j) {v : ℕ} (e : v ≡ reservedOf w x j) where
+  pub row-reserved : v ≡ rowReservedOf w l k
+  row-reserved = rw (r .its-channel, r .its-place) at e
 
-  pub rows-most : rowsOf w l ≤ mostRows
-  rows-most = s .link l h .rows-most
-
-  pub taken-most : takenOf w l ≤ mostBuffer
-  taken-most = le-trans (s .rows l h .fits) (s .link l h .good .buffer-most)
-
--- Row k as it was read, and what is reserved for it.
-pub record Row (w : Store) (l k x j : ℕ) : Type 0 where
-  pub sound : soundOf w ≡ true
-  pub there : l < linksOf w
-  pub below : k < rowsOf w l
-  pub its-channel : x ≡ rowChannelOf w l k
-  pub its-place : j ≡ rowPlaceOf w l k
-
-module _ {w : Store} {l k x j : ℕ} (r : Row w l k x j) where
-  stands : RowIs w l k
-  stands = sound-is w (r .sound) .rows l (r .there) .rows k (r .below)
-
-  pub row-ranged : Ranged w x
-  row-ranged = rw (r .its-channel) (fit-ranged w (sound-fit w (r .sound)) (rowChannelOf w l k) (stands .channel))
-
-  pub row-place : j < hopsOf w x
-  row-place = rw (r .its-channel, r .its-place) (stands .place)
-
-  module _ {v : ℕ} (e : v ≡ reservedOf w x j) where
-    pub row-reserved : v ≡ rowReservedOf w l k
-    row-reserved = rw (r .its-channel, r .its-place) at e
-
-    pub row-most : v ≤ mostBuffer
-    row-most =
-        rw row-reserved (le-trans (sum-part (rowReservedOf w l) (rowsOf w l) k (r .below)) (taken-most w (r .sound) l (r .there)))
+  pub row-most : v ≤ mostBuffer
+  row-most =
+      rw row-reserved (le-trans (sum-part (rowReservedOf w l) (rowsOf w l) k (r .below)) (taken-most w (r .sound) l (r .there)))
 
 -- A link of a lent route, and its buffer held against what would be reserved on it.
 module _ (w : Store) (route : List ℕ) where

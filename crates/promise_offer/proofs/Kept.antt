@@ -4,7 +4,7 @@ use mathlib.Core.Path.{_≡_}
 use native.Mathlib.Omega.{arith}
 use Rattle.store.specs.Layout.{Store, hopsOf, sentAt, sentOf, IsChannel}
 use Rattle.store.proofs.Laws.Sound.{Sound}
-use Rattle.store_same.proofs.Few.{few-channels}
+use Rattle.store.proofs.Laws.Few.{few-channels}
 use Rattle.store_same.proofs.Settled.{Settled}
 use Rattle.offer_rules.specs.Offer.{offered}
 use Rattle.offer_keeps.proofs.Frame.{offered-frame, offered-settled}

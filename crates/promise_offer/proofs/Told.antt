@@ -10,7 +10,7 @@ use Rattle.schedule.proofs.Messages.{orderly-more}
 use Rattle.store.specs.Layout.{Store, ring, channelsOf, cOf, pOf, messagesOf, timeOf, endOf, IsChannel}
 use Rattle.folds.proofs.Folds.{below}
 use Rattle.store.proofs.Laws.Sound.{Sound}
-use Rattle.store_same.proofs.Few.{few-channels}
+use Rattle.store.proofs.Laws.Few.{few-channels}
 use Rattle.store_same.proofs.Settled.{channels-same}
 use Rattle.store_same.proofs.Numbers.{settled-numbers}
 use Rattle.promise_queue.specs.Queue.{timeAt, endAfter}

@@ -8,7 +8,7 @@ use lib.ListN.{length}
 use Rattle.schedule.specs.Messages.{Message}
 use Rattle.store.specs.Layout.{Store, channelsOf, clockOf, IsChannel}
 use Rattle.folds.proofs.Folds.{sum-same}
-use Rattle.store_same.proofs.Few.{few-places}
+use Rattle.store.proofs.Laws.Few.{few-places}
 use Rattle.store_same.proofs.Same.{sent-same}
 use Rattle.store_same.proofs.Numbers.{SameNumbers}
 use Rattle.open_rules.specs.declared.Outcome.the-variants.{Accepted}

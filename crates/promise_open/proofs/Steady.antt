@@ -11,7 +11,7 @@ use Rattle.schedule.specs.Messages.{headAt}
 use Rattle.schedule.specs.Network.{Key, row, head, Inside}
 use Rattle.schedule.proofs.Link.{join-kept}
 use Rattle.store.specs.Layout.{Store, linksOf, channelsOf, clockOf}
-use Rattle.store_same.proofs.Few.{few-places}
+use Rattle.store.proofs.Laws.Few.{few-places}
 use Rattle.store_same.proofs.Same.{sent-same}
 use Rattle.open_rules.specs.declared.Outcome.the-variants.{Accepted}
 use Rattle.open_rules.specs.Request.{Request, hops, link}

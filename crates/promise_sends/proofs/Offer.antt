@@ -13,7 +13,7 @@ use Rattle.offer_rules.specs.Offer.{offered}
 use Rattle.slot_rules.specs.Slot.{Send}
 use Rattle.offer_keeps.proofs.Frame.{offered-settled, offered-other}
 use Rattle.offer_keeps.proofs.Order.{sent-kept}
-use Rattle.store_same.proofs.Few.{few-channels, few-places}
+use Rattle.store.proofs.Laws.Few.{few-channels, few-places}
 use Rattle.promise_queue.specs.Queue.{packetsFrom}
 use Rattle.promise_queue.proofs.More.{Longer, as-long, one-longer}
 use Rattle.promise_queue.proofs.Packets.{take-old}

@@ -13,7 +13,7 @@ use Rattle.store_same.proofs.Same.{Keeps, sent-same}
 use Rattle.store_same.proofs.Numbers.{SameNumbers, kept-numbers}
 use Rattle.promise_queue.proofs.More.{as-long}
 use Rattle.slot_rules.specs.Slot.{Send}
-use Rattle.store_same.proofs.Few.{few-places}
+use Rattle.store.proofs.Laws.Few.{few-places}
 use Rattle.promise_queue.specs.Queue.{packetsFrom}
 use Rattle.promise_queue.specs.Keep.{keep}
 use Rattle.promise_queue.proofs.Keep.{keep-none}

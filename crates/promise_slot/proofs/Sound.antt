@@ -5,7 +5,7 @@ use Rattle.kinds.specs.Ranges.{endSlot}
 use Rattle.store.specs.Layout.{Store, clockOf, hopsOf, IsChannel}
 use Rattle.store.specs.Amounts.{reservedOf, enteredOf, heldOf}
 use Rattle.store.proofs.Laws.Sound.{Sound, held-most}
-use Rattle.store_same.proofs.Few.{few-channels}
+use Rattle.store.proofs.Laws.Few.{few-channels}
 use Rattle.store_same.proofs.Settled.{channels-same, settled-sound}
 use Rattle.store_same.proofs.Numbers.{settled-numbers}
 use Rattle.slot_rules.specs.Slot.{moved}

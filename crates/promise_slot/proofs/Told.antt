@@ -2,7 +2,7 @@
 use Prim.Native.Nat.{ℕ, _<_}
 use Rattle.kinds.specs.Ranges.{mostChannels}
 use Rattle.store.specs.Layout.{Store, IsChannel}
-use Rattle.store_same.proofs.Few.{few-channels}
+use Rattle.store.proofs.Laws.Few.{few-channels}
 use Rattle.store_same.proofs.Settled.{channels-same}
 use Rattle.slot_rules.specs.Slot.{moved}
 use Rattle.slot_keeps.proofs.After.{moved-settled, messages-after, time-after, end-after}

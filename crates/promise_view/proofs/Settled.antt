@@ -8,7 +8,7 @@ use Rattle.schedule.specs.Feasible.{Table}
 use Rattle.schedule.specs.Network.{Key, Traffic, head, Inside, OnLinks}
 use Rattle.store.specs.Layout.{Store, linksOf, rowsOf, rowChannelOf, rowPlaceOf, IsChannel}
 use Rattle.store.proofs.Laws.Sound.{RowIs, Sound}
-use Rattle.store_same.proofs.Few.{few-links}
+use Rattle.store.proofs.Laws.Few.{few-links}
 use Rattle.store_same.proofs.Settled.{Settled, links-same, channels-same, rows-same, same-channel, same-place}
 use Rattle.store_same.proofs.Numbers.{SameNumbers, settled-numbers}
 use Rattle.open_rules.specs.Search.{rowAt, tableOf}

@@ -2,26 +2,17 @@
 use Prim.Native.Nat.{ℕ, suc, _+_, _≤_, _<_}
 use mathlib.Core.Path.{_≡_}
 use mathlib.Core.Bool.{Bool, true, false}
-use native.Mathlib.Omega.{arith}
 use lib.Dec.{eqb}
 use borrow.Author.Tests.{le-leb, lt-leb, lt-ltb, le-ltb}
-use Rattle.kinds.specs.Ranges.{mostChannels, mostHops}
-use Rattle.store.specs.Layout.{Store, Long, linksOf, rowChannelOf, rowPlaceOf, hopsOf, routeOf, sentOf, IsChannel}
+use Rattle.store.specs.Layout.{Store, linksOf, rowChannelOf, rowPlaceOf, hopsOf, routeOf, sentOf, IsChannel}
 use Rattle.store.specs.Amounts.{reservedOf, enteredOf, heldOf}
 use Rattle.store.specs.Sound.{soundOf}
-use Rattle.store.specs.Ranged.{Ranged}
-use Rattle.store.proofs.Laws.Sound.{sound-is, sound-fit, fit-ranged}
+use Rattle.store.proofs.Laws.Sound.{sound-is}
 use Rattle.slot_rules.specs.Pick.{pickOf}
 use Rattle.slot_keeps.specs.Room.{leaves, takesPacket, roomAfter}
 
--- a place of a channel's route can be read, and is on a link
+-- a place of a channel's route: what was sent there, and its link
 module _ (w : Store) (sound : soundOf w ≡ true) (x j : ℕ) (h : IsChannel w x) (i : j < hopsOf w x) where
-  pub place-ranged : Ranged w x
-  place-ranged = fit-ranged w (sound-fit w sound) x h
-
-  pub place-ready : Long w × ((x < mostChannels) × (j < mostHops))
-  place-ready = let r = place-ranged in (r .long, (r .channel, omega (arith, r .hops-most)))
-
   pub place-flows : sentOf w x j ≤ enteredOf w x j
   place-flows = sound-is w sound .channel x h .flows j i
 

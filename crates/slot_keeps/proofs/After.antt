@@ -15,7 +15,7 @@ use Rattle.slot_rules.specs.Pick.{pickOf}
 use Rattle.slot_rules.specs.Slot.{movedTo, moved}
 use Rattle.slot_keeps.specs.Room.{leaves}
 use Rattle.slot_keeps.proofs.To.{rowSentAt, to-length, to-beside, to-there}
-use Rattle.store_same.proofs.Few.{few-channels, few-places}
+use Rattle.store.proofs.Laws.Few.{few-channels, few-places}
 use Rattle.slot_keeps.proofs.Leaves.{leaving, row-leaving}
 
 -- two places have one count only if they are one

@@ -15,7 +15,7 @@ use Rattle.store.proofs.Laws.Sound.{both, Sound}
 use Rattle.store_same.proofs.Settled.{CourseIs, c-kept, p-kept, hops-kept}
 use Rattle.slot_rules.specs.Slot.{moved}
 use Rattle.slot_keeps.specs.Room.{leaves}
-use Rattle.store_same.proofs.Few.{few-channels}
+use Rattle.store.proofs.Laws.Few.{few-channels}
 use Rattle.slot_keeps.proofs.Leaves.{leaving-held}
 use Rattle.slot_keeps.proofs.After.{moved-settled, messages-after, time-after, end-after, accepted-after, sent-goes}
 use Rattle.slot_keeps.proofs.After.{sent-stays, sent-rises}

@@ -15,7 +15,7 @@ use Rattle.slot_rules.proofs.Laws.Head.{MessageIs, message-found, message-is, s
 use Rattle.slot_rules.proofs.Laws.Ends.{message-same}
 use Rattle.slot_rules.proofs.Laws.Next.{NextIs, message-next}
 use Rattle.slot_keeps.specs.Room.{leaves}
-use Rattle.store_same.proofs.Few.{few-channels}
+use Rattle.store.proofs.Laws.Few.{few-channels}
 use Rattle.slot_keeps.proofs.Leaves.{leaving-held}
 use Rattle.slot_keeps.proofs.After.{moved-settled, messages-after, end-after, accepted-after, sent-goes, sent-stays}
 use Rattle.slot_keeps.proofs.Course.{course}

@@ -19,7 +19,7 @@ use Rattle.slot_rules.specs.Pick.{pickOf}
 use Rattle.slot_rules.specs.Slot.{moved}
 use Rattle.slot_keeps.specs.Room.{leaves, takesPacket, roomFrom, roomAfter}
 use Rattle.slot_keeps.proofs.TakesPacket.{RoomIs, room-is, is-room}
-use Rattle.store_same.proofs.Few.{few-channels}
+use Rattle.store.proofs.Laws.Few.{few-channels}
 use Rattle.slot_keeps.proofs.Leaves.{leaving, row-leaving}
 use Rattle.slot_keeps.proofs.After.{moved-settled, accepted-after, clock-after, sent-goes, sent-stays, sent-rises}
 use Rattle.slot_keeps.proofs.Course.{course}

@@ -10,7 +10,7 @@ use Rattle.slot_rules.specs.Pick.{pickOf}
 use Rattle.slot_rules.specs.Slot.{moved}
 use Rattle.slot_keeps.specs.Room.{leaves}
 use Rattle.slot_keeps.proofs.To.{rowSentAt, to-beside}
-use Rattle.store_same.proofs.Few.{few-places}
+use Rattle.store.proofs.Laws.Few.{few-places}
 use Rattle.slot_keeps.proofs.Leaves.{leaving}
 use Rattle.slot_keeps.proofs.After.{beside-clock}
 

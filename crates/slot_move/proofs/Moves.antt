@@ -6,8 +6,8 @@ use native.Mathlib.Numerals.{add-one}
 use native.Mathlib.Omega.{arith}
 use lib.ListN.{length}
 use Rattle.kinds.specs.Ranges.{mostLinks, mostRows, mostChannels, mostHops}
-use Rattle.store.specs.Layout.{Store, Long, clockAt, rowChannelAt, rowPlaceAt}
-use Rattle.store.specs.Layout.{linksOf, clockOf, rowChannelOf, rowPlaceOf, sentOf, withClock}
+use Rattle.store.specs.Layout.{Store, Long, clockAt, rowChannelAt, rowPlaceAt, linksOf, clockOf, rowChannelOf, rowPlaceOf, sentOf}
+use Rattle.store.specs.Layout.{withClock}
 use Rattle.store.specs.Sound.{soundOf}
 use Rattle.store.proofs.Laws.Layout.{as-long}
 use Rattle.store.proofs.Laws.Sound.{Sound, sound-is}
@@ -16,7 +16,7 @@ use Rattle.slot_rules.specs.Slot.{moveFrom, movedTo, moved}
 use Rattle.slot_keeps.proofs.To.{to-length}
 use Rattle.slot_keeps.proofs.After.{to-frame, to-stays}
 use Rattle.slot_move.specs.Sends.{mostPackets}
-use Rattle.slot_move.proofs.Rows.{Row, link-few, row-few, row-at}
+use Rattle.slot_move.proofs.Rows.{Row, row-ready, row-at}
 
 -- the packets of the first l links have moved on
 pub record Moving (w : Store) (l : ℕ) (store : Store) : Type 0 where
@@ -60,14 +60,12 @@ module _ (w : Store) (sound : soundOf w ≡ true) (l : ℕ) (store : Store) (m :
 
       channel-there : rowChannelOf store l k ≡ rowChannelOf w l k
       channel-there =
-          let few : k < mostRows = row-few w sound l h k e in
-          let near : l < mostLinks = link-few w sound l h in
+          let (long, (near, few)) = row-ready w sound l h k e in
           rw (m .same) (to-frame s l (rowChannelAt l k) (m .place) (λ x j a b f. omega arith))
 
       place-there : rowPlaceOf store l k ≡ rowPlaceOf w l k
       place-there =
-          let few : k < mostRows = row-few w sound l h k e in
-          let near : l < mostLinks = link-few w sound l h in
+          let (long, (near, few)) = row-ready w sound l h k e in
           rw (m .same) (to-frame s l (rowPlaceAt l k) (m .place) (λ x j a b f. omega arith))
 
       sent-there : sentOf store (rowChannelOf w l k) (rowPlaceOf w l k) ≡ sentOf w (rowChannelOf w l k) (rowPlaceOf w l k)
@@ -79,8 +77,9 @@ module _ (w : Store) (sound : soundOf w ≡ true) (l : ℕ) (store : Store) (m :
       pub moving-ready : Long store × ((l < mostLinks) × ((k < mostRows) × ((rowChannelOf store l k < mostChannels)
           × ((rowPlaceOf store l k < mostHops) × (sentOf store (rowChannelOf store l k) (rowPlaceOf store l k) ≤ mostPackets)))))
       moving-ready =
+          let (long, (near, few)) = row-ready w sound l h k e in
           rw (channel-there, place-there, sent-there)
-          (moving-long, (link-few w sound l h, (row-few w sound l h k e, (row .ready .1 .0, (row .ready .1 .1, row .sent-few)))))
+          (moving-long, (near, (few, (row .ready .1 .0, (row .ready .1 .1, row .sent-few)))))
 
       pub moving-more : (later : Store) → later ≡ moveFrom store l (suc k) store → Moving w (l + 1) later
       unfolding movedTo

@@ -9,13 +9,13 @@ use Rattle.kinds.specs.Ranges.{mostLinks, mostRows, mostChannels, mostHops, mos
 use Rattle.store.specs.Layout.{Store, Long, ring, numberAt, linksOf, rowChannelOf, rowPlaceOf, messagesOf, sentOf}
 use Rattle.store.specs.Sound.{soundOf}
 use Rattle.store.proofs.Laws.Sound.{ChannelIs, Sound, sound-is}
+use Rattle.store.proofs.Laws.Rows.{row-there, place-ready}
 use Rattle.slot_rules.specs.Head.{messageOf}
 use Rattle.slot_rules.specs.Pick.{pickOf}
 use Rattle.slot_rules.proofs.Laws.Head.{MessageIs, message-is, entered-most}
 use Rattle.slot_rules.proofs.Laws.Pick.{picked}
 use Rattle.slot_pick.specs.Picks.{picksTo}
 use Rattle.slot_pick.proofs.Laws.{picks-at}
-use Rattle.store_same.proofs.Few.{few-channels, few-places}
 use Rattle.slot_keeps.proofs.Leaves.{Leaving, leaving}
 use Rattle.slot_move.specs.Sends.{mostPackets}
 
@@ -31,7 +31,8 @@ module _ (w : Store) (sound : soundOf w ≡ true) (picks : List ℕ) (all : pick
   pub a-row : 0 < p → pickOf w l ≡ suc (p - 1)
   a-row z = omega (arith, position)
 
--- the row that it picked: its place can be read, and the packet that goes next there is one of a message
+-- the row that it picked: its place can be read, and the packet that goes next there is one of a message (store's `Row` is any
+-- row of a link, as it was read)
 pub record Row (w : Store) (l x j : ℕ) : Type 0 where
   pub leaves : Leaving w l x j
   pub ready : Long w × ((x < mostChannels) × (j < mostHops))
@@ -42,20 +43,14 @@ module _ (w : Store) (sound : soundOf w ≡ true) (l : ℕ) (h : l < linksOf w) 
   s : Sound w
   s = sound-is w sound
 
-  pub link-few : l < mostLinks
-  link-few = omega (arith, s .counts .links-most)
-
   module _ (k : ℕ) (e : pickOf w l ≡ suc k) where
-    pub row-few : k < mostRows
-    row-few = omega (arith, picked w l k e .0, s .link l h .rows-most)
-
     pub row-ready : Long w × ((l < mostLinks) × (k < mostRows))
-    row-ready = (s .long, (link-few, row-few))
+    row-ready = row-there w sound l h k (picked w l k e .0)
 
     pub row-at : (x j : ℕ) → x ≡ rowChannelOf w l k → j ≡ rowPlaceOf w l k → Row w l x j
     row-at x j a b = record {
       leaves = leaves;
-      ready = (s .long, (few-channels s x (leaves .channel), few-places s x j (leaves .channel) (leaves .place)));
+      ready = place-ready w sound x j (leaves .channel) (leaves .place);
       message = message-is kept j (leaves .place) (leaves .held);
       sent-few = omega (
         arith,

@@ -6,15 +6,14 @@ use native.Mathlib.Nat.{le-trans}
 use native.Mathlib.Numerals.{unary-clauses}
 use native.Mathlib.Omega.{arith}
 use borrow.Author.Tests.{le-leb, lt-leb, ltb-true}
-use Rattle.kinds.specs.Ranges.{mostChannels, mostHops, mostP, mostNumber}
-use Rattle.store.specs.Layout.{Store, Long, ring, placeBefore, hopsOf, delayOf, sentOf, timeOf, endOf, IsChannel}
+use Rattle.kinds.specs.Ranges.{mostHops, mostP, mostNumber}
+use Rattle.store.specs.Layout.{Store, ring, placeBefore, hopsOf, delayOf, sentOf, timeOf, endOf, IsChannel}
 use Rattle.folds.specs.Folds.{sumTo}
 use Rattle.store.specs.Amounts.{enteredOf}
 use Rattle.store.specs.Sound.{soundOf}
-use Rattle.store.specs.Ranged.{Ranged}
 use Rattle.folds.proofs.Folds.{sum-most}
 use Rattle.store.proofs.Laws.Ring.{ring-inside, ring-time, ring-end, ring-back}
-use Rattle.store.proofs.Laws.Sound.{ChannelIs, sound-is, sound-fit, fit-ranged}
+use Rattle.store.proofs.Laws.Sound.{ChannelIs, sound-is}
 use Rattle.slot_rules.specs.Head.{messageWith, messageOf, logicalOf, isHeld}
 use Rattle.slot_rules.proofs.Laws.Head.{message-is}
 use Rattle.slot_packet.specs.declared.Found.{Found}
@@ -77,16 +76,10 @@ module _ (w : Store) (x j u n at left : ℕ) (o : Looking w x j u n at left) (z 
   looking-back e f h l =
       record { place = place-back; same = o .same ∙ message-back w x u n left e h z (end-back e f) l }
 
--- Place j of the route of a sound channel: it can be read, and a logical time there is far from 2 ^ 64.
+-- Place j of the route of a sound channel: a logical time there is far from 2 ^ 64.
 module _ (w : Store) (e : soundOf w ≡ true) (x j : ℕ) (h : IsChannel w x) (l : j < hopsOf w x) where
   k : ChannelIs w x
   k = sound-is w e .channel x h
-
-  pub place-ranged : Ranged w x
-  place-ranged = fit-ranged w (sound-fit w e) x h
-
-  pub place-ready : Long w × ((x < mostChannels) × (j < mostHops))
-  place-ready = (place-ranged .long, (place-ranged .channel, omega (arith, place-ranged .hops-most)))
 
   delay-most : (i : ℕ) → i < hopsOf w x → delayOf w x i ≤ mostP
   delay-most i o = le-trans (k .delay-most i o) (k .good .p-most)
@@ -96,7 +89,7 @@ module _ (w : Store) (e : soundOf w ≡ true) (x j : ℕ) (h : IsChannel w x) (l
 
   offset-most : sumTo (delayOf w x) j ≤ mostP * mostHops
   offset-most =
-      omega (arith, sum-most (delayOf w x) mostP j (λ i o. delay-most i (omega arith)), place-ranged .hops-most)
+      omega (arith, sum-most (delayOf w x) mostP j (λ i o. delay-most i (omega arith)), k .hops-most)
 
   pub logical-most : isHeld w x j ≡ true → logicalOf w x j ≤ mostNumber + mostP * mostHops
   logical-most f =

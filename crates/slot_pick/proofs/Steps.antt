@@ -9,14 +9,12 @@ use lib.Dec.{ltb}
 use lib.ListN.{set, replicate}
 use borrow.Author.Tests.{lt-ltb, le-ltb, eq-eqb, ne-eqb, le-leb, lt-leb}
 use Rattle.store.specs.Layout.{Store, linksOf, clockOf, horizonOf, rowsOf, rowChannelOf, delayOf}
-use Rattle.slot_rules.specs.Head.{isHeld}
 use Rattle.slot_rules.specs.Pick.{goesBefore, better, bestOf, rowCurrent, rowEarly, rowLogical, rowDeadline, dueOf, soonOf}
-use Rattle.slot_rules.specs.Pick.{withinHorizon, pickFrom, pickOf}
+use Rattle.slot_rules.specs.Pick.{withinHorizon, pickFrom, pickOf, rowHeld}
 use Rattle.slot_pick.specs.Picks.{picksTo}
 use Rattle.slot_pick.specs.Rows.{goesFirst, Timed}
 use Rattle.slot_pick.proofs.Laws.{picks-none, picks-more}
-use Rattle.slot_pick.proofs.Rows.{Row, Held, empty-current, empty-early, held-logical, held-deadline}
-use Rattle.slot_pick.proofs.Rows.{due-current, due-early, soon-current, soon-early}
+use Rattle.slot_pick.proofs.Rows.{Held, held-logical, held-deadline, due-current, due-early, soon-current, soon-early}
 
 -- the test of `goesFirst`, case by case
 module _ (key x than other : ℕ) where
@@ -90,12 +88,13 @@ choosing-none w l = record { place = omega arith; current = leading-none _ _ _; 
 
 module _ {w : Store} {l due deadline dueChannel soon time soonChannel k : ℕ}
     (a : Choosing w l due deadline dueChannel soon time soonChannel k) where
-  pub choosing-pass : {x j : ℕ} → Row w l k x j → isHeld w x j ≡ false
+  -- a row that holds none is neither current nor early
+  pub choosing-pass : k < rowsOf w l → rowHeld w l k ≡ false
       → Choosing w l due deadline dueChannel soon time soonChannel (k + 1)
-  choosing-pass r f = record {
-    place = omega (arith, r .below);
-    current = leading-pass (a .current) (empty-current r f);
-    early = leading-pass (a .early) (empty-early r f);
+  choosing-pass h f = record {
+    place = omega arith;
+    current = leading-pass (a .current) (rw f);
+    early = leading-pass (a .early) (rw f);
   }
 
   module _ {x j now t : ℕ} (p : Held w l k x j now t) where

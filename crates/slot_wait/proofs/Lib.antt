@@ -3,5 +3,4 @@ pub mod Quiet
 pub mod Least
 pub mod Skipped
 pub mod Run
-mod Rows
 mod Steps

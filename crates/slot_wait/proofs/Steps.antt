@@ -4,11 +4,18 @@ use mathlib.Core.Path.{_≡_, sym, _∙_}
 use mathlib.Core.Bool.{Bool, true, false}
 use native.Mathlib.Omega.{arith}
 use Rattle.kinds.specs.Ranges.{endSlot}
-use Rattle.store.specs.Layout.{Store, linksOf, clockOf}
+use Rattle.store.specs.Layout.{Store, linksOf, clockOf, horizonOf}
 use Rattle.store.specs.Sound.{soundOf}
+use Rattle.store.proofs.Laws.Rows.{Row}
+use Rattle.slot_rules.specs.Head.{logicalOf}
 use Rattle.slot_rules.specs.Idle.{idleOf}
-use Rattle.slot_wait.specs.Least.{leastOf, leastOn, leastTo}
+use Rattle.slot_wait.specs.Least.{leastOf, waitOf, leastOn, leastTo}
 use Rattle.slot_wait.proofs.Least.{least-none, least-held, least-pass, least-links, least-more, idle-least}
+
+-- how long row k has to wait
+pub row-wait : {w : Store} {l k x j : ℕ} → Row w l k x j → {clock horizon time v : ℕ} → clock ≡ clockOf w
+    → horizon ≡ horizonOf w l → time ≡ logicalOf w x j → v ≡ time - (clock + horizon) → v ≡ waitOf w l k
+row-wait r u y z e = rw (e, z, u, y, r .its-channel, r .its-place)
 
 -- `least` is the smallest of the first k rows
 pub record Waiting (held : ℕ → Bool) (wait : ℕ → ℕ) (most n k least : ℕ) : Type 0 where

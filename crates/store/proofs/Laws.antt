@@ -2,5 +2,7 @@
 pub mod Layout
 pub mod Amounts
 pub mod Sound
+pub mod Few
+pub mod Rows
 pub mod Cleared
 pub mod Ring

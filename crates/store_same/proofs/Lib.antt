@@ -1,4 +1,3 @@
-pub mod Few
 pub mod Same
 pub mod Settled
 pub mod Numbers

@@ -7,7 +7,7 @@ use Rattle.kinds.specs.Ranges.{mostChannels}
 use Rattle.store.specs.Layout.{Store, cOf, pOf, dOf, bOf, hopsOf, routeOf, delayOf, horizonOf, IsChannel}
 use Rattle.store.specs.Amounts.{reservedOf}
 use Rattle.store.proofs.Laws.Sound.{Sound}
-use Rattle.store_same.proofs.Few.{few-channels, few-links, few-places}
+use Rattle.store.proofs.Laws.Few.{few-channels, few-links, few-places}
 use Rattle.store_same.proofs.Same.{SameNetwork, SameRecord, Keeps, c-same, p-same, d-same, b-same, hops-same, route-same}
 use Rattle.store_same.proofs.Same.{delay-same, reserved-same}
 use Rattle.store_same.proofs.Settled.{Settled, channels-same, c-kept, p-kept, d-kept, b-kept, hops-kept, route-kept}

@@ -16,7 +16,7 @@ use Rattle.store.specs.Amounts.{reservedOf, acceptedOf, enteredOf, heldOf, rese
 use Rattle.store.specs.Sound.{inOrder, rowDelayOf, rowReservedOf}
 use Rattle.folds.proofs.Folds.{sum-mono}
 use Rattle.store.proofs.Laws.Sound.{LinkIs, ChannelIs, RowIs, Before, RowsAre, RowFor, Sound}
-use Rattle.store_same.proofs.Few.{few-channels, few-links, few-places, few-rows}
+use Rattle.store.proofs.Laws.Few.{few-channels, few-links, few-places, few-rows}
 use Rattle.store_same.proofs.Same.{SameNetwork, good-same}
 
 -- one frame for every number that offers and slots leave alone

@@ -3,6 +3,7 @@ use Prim.Native.Nat.{ℕ, zero, suc, _≤_, _<_}
 use mathlib.Core.Path.{_≡_, refl}
 use mathlib.Core.Bool.{true, and-eq-true-iff}
 use mathlib.Core.List.{List, [], _∷_, _++_}
+use native.Mathlib.Nat.{le-trans}
 use native.Mathlib.Omega.{arith}
 use Rattle.kinds.specs.Ranges.{mostLinks, mostChannels, mostHops, mostRows, mostC, mostP, inRangeC, inRangeP}
 use Rattle.kinds.proofs.Laws.{true-within, within-true}
@@ -10,7 +11,8 @@ use Rattle.response.specs.declared.Row.{Row}
 use Rattle.response.specs.Need.{Spaced}
 use Rattle.response.specs.Numbers.{rowInRange, rowsInRange}
 use Rattle.store.specs.Layout.{Store, linksOf, rowsOf, rowChannelOf, rowPlaceOf}
-use Rattle.store.proofs.Laws.Sound.{Sound, ChannelIs}
+use Rattle.store.proofs.Laws.Sound.{Sound, ChannelIs, RowIs}
+use Rattle.store.proofs.Laws.Few.{few-channels, few-links, few-places}
 use Rattle.open_rules.specs.Search.{rowAt, rowsTo, newRow}
 
 ranged-more : (xs : List Row) (x : Row) → rowsInRange xs ≡ true → rowInRange x ≡ true → rowsInRange (xs ++ (x ∷ [])) ≡ true
@@ -30,27 +32,29 @@ ranged-spaced (x ∷ xs) e =
 
 module _ (w : Store) (s : Sound w) (l : ℕ) (h : l < linksOf w) where
   pub link-most : l < mostLinks
-  link-most = omega (arith, s .counts .links-most)
+  link-most = few-links s l h
 
   pub rows-most : rowsOf w l ≤ mostRows
   rows-most = s .link l h .rows-most
 
   module _ (k : ℕ) (inside : k < rowsOf w l) where
+    its-row : RowIs w l k
+    its-row = s .rows l h .rows k inside
+
     its-channel : ChannelIs w (rowChannelOf w l k)
-    its-channel = s .channel (rowChannelOf w l k) (s .rows l h .rows k inside .channel)
+    its-channel = s .channel (rowChannelOf w l k) (its-row .channel)
 
     pub channel-most : rowChannelOf w l k < mostChannels
-    channel-most = omega (arith, s .counts .channels-most, s .rows l h .rows k inside .channel)
+    channel-most = few-channels s _ (its-row .channel)
 
     pub place-most : rowPlaceOf w l k < mostHops
-    place-most = omega (arith, its-channel .hops-most, s .rows l h .rows k inside .place)
+    place-most = few-places s _ _ (its-row .channel) (its-row .place)
 
     pub c-most : rowAt w l k .c ≤ mostC
     c-most = its-channel .good .c-most
 
     pub delay-most : rowAt w l k .delay ≤ mostP
-    delay-most =
-        omega (arith, its-channel .good .p-most, its-channel .delay-most (rowPlaceOf w l k) (s .rows l h .rows k inside .place))
+    delay-most = le-trans (its-channel .delay-most (rowPlaceOf w l k) (its-row .place)) (its-channel .good .p-most)
 
     row-ranged : rowInRange (rowAt w l k) ≡ true
     row-ranged =

@@ -5,9 +5,9 @@ use lib.ListN.{length}
 use Rattle.store.specs.Layout.{numberAt, linksOf}
 use Rattle.store.specs.Route.{from}
 use Rattle.folds.proofs.Folds.{Passing, passing-none, passing-more, passing-first, passing-end}
-use Rattle.store.proofs.Laws.Sound.{sound-fit}
+use Rattle.store.proofs.Laws.Rows.{link-ready}
 use Rattle.open_rules.specs.Shares.{fitsBuffer}
-use Rattle.open_shares.proofs.Rows.{link-most, taken-most, link-exists, exceeded, not-exceeded}
+use Rattle.open_shares.proofs.Rows.{taken-most, link-exists, exceeded, not-exceeded}
 use Rattle.open_shares.proofs.full_link.Statement.{statement}
 use Rattle.open_shares.proofs.full_link.Tie as tie
 
@@ -54,7 +54,7 @@ buffer-requires : tie.Need-buffer-requires Inv-loop μ-loop
 buffer-requires c κs =
     let t = c .before .before .before in
     let e = t .before .before .before .before .pre .0 in
-    (sound-fit _ e .long, link-most _ e _ (there t))
+    link-ready _ e _ (there t)
 
 returns : tie.Need-returns Inv-loop μ-loop
 returns c =

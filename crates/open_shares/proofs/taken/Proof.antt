@@ -4,8 +4,8 @@ use native.Mathlib.Omega.{arith}
 use Rattle.kinds.specs.Ranges.{mostLinks, mostRows, mostBuffer}
 use Rattle.store.specs.Layout.{Long, rowsOf}
 use Rattle.store.specs.Sound.{rowReservedOf}
-use Rattle.store.proofs.Laws.Sound.{sound-fit}
-use Rattle.open_shares.proofs.Rows.{link-most, rows-most, Row, row-ranged, row-place, row-reserved, row-most}
+use Rattle.store.proofs.Laws.Rows.{link-ready, rows-most, row-there, Row, row-ranged, row-place}
+use Rattle.open_shares.proofs.Rows.{row-reserved, row-most}
 use Rattle.folds.proofs.Adding.{Adding, adding-none, adding-more, adding-fits, adding-done}
 use Rattle.open_shares.proofs.taken.Statement.{statement}
 use Rattle.open_shares.proofs.taken.Tie as tie
@@ -27,7 +27,7 @@ ready : (t : tie.In-loop Inv-loop μ-loop)
     → Long (start t .args .store .now) × ((start t .args .l < mostLinks) × (t .before .loop .k < mostRows))
 ready t =
     let (e, h) = start t .pre in
-    (sound-fit _ e .long, (link-most _ e _ h, omega (arith, below t, rows-most _ e _ h)))
+    row-there _ e _ h _ (below t)
 
 row : (p : tie.After-row-place Inv-loop μ-loop)
     → Row (start (p .before .before) .args .store .now) (start (p .before .before) .args .l) (p .before .before .before .loop .k)
@@ -46,7 +46,7 @@ row p =
 rows-requires : tie.Need-rows-requires Inv-loop μ-loop
 rows-requires c κs =
     let (e, h) = c .before .pre in
-    (sound-fit _ e .long, link-most _ e _ h)
+    link-ready _ e _ h
 
 loop-holds : tie.Need-loop-holds Inv-loop μ-loop
 loop-holds c = adding-none _ _ _

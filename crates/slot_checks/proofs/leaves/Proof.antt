@@ -5,8 +5,9 @@ use native.Mathlib.Omega.{arith}
 use borrow.Author.Needs.{needs}
 use Rattle.store.specs.Layout.{linksOf}
 use Rattle.slot_rules.specs.Pick.{pickOf}
-use Rattle.slot_move.proofs.Rows.{no-row, a-row, link-few, row-ready}
-use Rattle.slot_checks.proofs.Room.{place-ready, place-link, leaves-none, leaves-row}
+use Rattle.store.proofs.Laws.Rows.{link-ready, place-ready}
+use Rattle.slot_move.proofs.Rows.{no-row, a-row, row-ready}
+use Rattle.slot_checks.proofs.Room.{place-link, leaves-none, leaves-row}
 use Rattle.slot_checks.proofs.leaves.Statement.{statement}
 use Rattle.slot_checks.proofs.leaves.Tie as tie
 
@@ -29,7 +30,7 @@ route-requires : tie.Need-route-requires
 route-requires c κs = let p = c .before .pre in place-ready _ (p .0) _ _ (p .1 .1 .0) (p .1 .1 .1)
 
 pick-requires : tie.Need-pick-requires
-pick-requires c κs = link-few _ (start c .pre .0) _ (there c)
+pick-requires c κs = link-ready _ (start c .pre .0) _ (there c) .1
 
 returns : tie.Need-returns
 returns c =

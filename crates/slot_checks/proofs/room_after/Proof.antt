@@ -4,7 +4,8 @@ use mathlib.Core.Path.{_≡_}
 use native.Mathlib.Omega.{arith}
 use borrow.Author.Needs.{needs}
 use Rattle.slot_rules.specs.Pick.{pickOf}
-use Rattle.slot_move.proofs.Rows.{no-row, a-row, Row, link-few, row-ready, row-at}
+use Rattle.store.proofs.Laws.Rows.{link-ready}
+use Rattle.slot_move.proofs.Rows.{no-row, a-row, Row, row-ready, row-at}
 use Rattle.slot_checks.proofs.Room.{after-none, after-last, after-next}
 use Rattle.slot_checks.proofs.room_after.Statement.{statement}
 use Rattle.slot_checks.proofs.room_after.Tie as tie
@@ -27,7 +28,7 @@ row c =
     row-at _ (p .0) _ (p .1 .1) _ (picked e) _ _ (c .before .row-channel .ensures) (c .row-place .ensures)
 
 pick-requires : tie.Need-pick-requires
-pick-requires c κs = let p = c .before .pre in link-few _ (p .0) _ (p .1 .1)
+pick-requires c κs = let p = c .before .pre in link-ready _ (p .0) _ (p .1 .1) .1
 
 returns : tie.Need-returns
 returns c =

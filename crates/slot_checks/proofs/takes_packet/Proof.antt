@@ -1,6 +1,7 @@
 -- `slot_checks::takes_packet` meets its contract.
 use borrow.Author.Needs.{needs}
-use Rattle.slot_checks.proofs.Room.{place-ranged, place-ready, place-flows, room-free, room-full}
+use Rattle.store.proofs.Laws.Rows.{place-ranged, place-ready}
+use Rattle.slot_checks.proofs.Room.{place-flows, room-free, room-full}
 use Rattle.slot_checks.proofs.takes_packet.Statement.{statement}
 use Rattle.slot_checks.proofs.takes_packet.Tie as tie
 

@@ -3,7 +3,8 @@ use Prim.Native.Nat.{_+_}
 use mathlib.Core.Path.{_≡_}
 use native.Mathlib.Omega.{arith}
 use Rattle.slot_rules.specs.Head.{logicalOf}
-use Rattle.slot_packet.proofs.Laws.{place-ready, place-ranged, found-inside, logical-is, logical-most}
+use Rattle.store.proofs.Laws.Rows.{place-ready, place-ranged}
+use Rattle.slot_packet.proofs.Laws.{found-inside, logical-is, logical-most}
 use Rattle.slot_packet.proofs.logical.Statement.{statement}
 use Rattle.slot_packet.proofs.logical.Tie as tie
 

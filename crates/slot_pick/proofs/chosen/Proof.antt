@@ -1,5 +1,6 @@
 -- `slot_pick::chosen` meets its contract, test by test.
-use Rattle.slot_pick.proofs.Rows.{link-ready, last-fits}
+use Rattle.store.proofs.Laws.Rows.{link-ready}
+use Rattle.slot_pick.proofs.Rows.{last-fits}
 use Rattle.slot_pick.proofs.Steps.{chosen-due, chosen-none, chosen-near, chosen-far}
 use Rattle.slot_pick.proofs.chosen.Statement.{statement}
 use Rattle.slot_pick.proofs.chosen.Tie as tie

@@ -7,8 +7,9 @@ use borrow.Author.Needs.{needs}
 use Rattle.kinds.specs.Ranges.{mostLinks, mostRows}
 use Rattle.store.specs.Layout.{Long, rowsOf}
 use Rattle.slot_rules.specs.Head.{isHeld}
-use Rattle.slot_pick.proofs.Rows.{link-ready, rows-few, Row, row-channel, row-place, row-ready, row-holds, row-empty, Held}
-use Rattle.slot_pick.proofs.Rows.{held-small}
+use Rattle.store.proofs.Laws.Rows.{link-ready, row-there, Row, row-channel, row-place, row-ready}
+use Rattle.slot_rules.proofs.Laws.Rows.{place-holds, row-empty}
+use Rattle.slot_pick.proofs.Rows.{Held, held-small}
 use Rattle.slot_pick.proofs.Steps.{Choosing, choosing-none, choosing-pass, choosing-soon, choosing-later, choosing-due}
 use Rattle.slot_pick.proofs.Steps.{choosing-after, choosing-done}
 use Rattle.slot_pick.proofs.pick.Statement.{statement}
@@ -41,8 +42,7 @@ ready : (t : tie.In-loop Inv-loop μ-loop)
     → Long (start (t .before) .args .store .now) × ((start (t .before) .args .l < mostLinks) × (t .before .loop .k < mostRows))
 ready t =
     let (e, h) = start (t .before) .pre in
-    let (long, l) = link-ready _ e _ h in
-    (long, (l, omega (arith, below t, rows-few _ e _ h)))
+    row-there _ e _ h _ (below t)
 
 -- the row in hand, and what it holds
 row : (p : tie.After-row-place Inv-loop μ-loop)
@@ -64,7 +64,7 @@ holds : (u : tie.Then1 Inv-loop μ-loop)
     (u .before .before .before .before .row-channel .result) (u .before .before .before .row-place .result) ≡ true
 holds u =
     let e = u .before in
-    row-holds (row (e .before .before)) (e .before .sent .ensures) (e .entered .ensures) (u .if1 .taken)
+    place-holds (row (e .before .before)) (e .before .sent .ensures) (e .entered .ensures) (u .if1 .taken)
 
 packet : (g : tie.After-logical Inv-loop μ-loop)
     → Held (start (g .before .before .before .before .before .before .before) .args .store .now)
@@ -173,7 +173,7 @@ loop-again-5 : tie.Need-loop-again-5 Inv-loop μ-loop
 loop-again-5 c =
     let e = c .before in
     let r = row (e .before .before) in
-    choosing-pass (e .before .before .before .before .before .loop .inv) r
+    choosing-pass (e .before .before .before .before .before .loop .inv) (r .below)
     (row-empty r (e .before .sent .ensures) (e .entered .ensures) (c .if1 .left))
 
 chosen-requires : tie.Need-chosen-requires Inv-loop μ-loop

@@ -8,8 +8,9 @@ use Rattle.store.specs.Layout.{Long, rowsOf}
 use Rattle.store.proofs.Laws.Sound.{Sound, LinkIs, sound-is}
 use Rattle.slot_rules.specs.Pick.{rowHeld}
 use Rattle.slot_wait.specs.Least.{waitOf}
-use Rattle.slot_wait.proofs.Rows.{Row, row-channel, row-place, row-ready, holds, row-holds, row-holds-none, row-wait}
-use Rattle.slot_wait.proofs.Steps.{Waiting, waiting-none, waiting-held, waiting-pass, waiting-done}
+use Rattle.store.proofs.Laws.Rows.{link-ready, row-there, Row, row-channel, row-place, row-ready}
+use Rattle.slot_rules.proofs.Laws.Rows.{place-holds, row-holds, row-empty}
+use Rattle.slot_wait.proofs.Steps.{row-wait, Waiting, waiting-none, waiting-held, waiting-pass, waiting-done}
 use Rattle.slot_wait.proofs.wait_on.Statement.{statement}
 use Rattle.slot_wait.proofs.wait_on.Tie as tie
 
@@ -27,7 +28,7 @@ link : (s : tie.Start Inv-loop μ-loop) → LinkIs (s .args .store .now) (s .arg
 link s = sound s .link (s .args .l) (s .pre .1)
 
 in-store : (s : tie.Start Inv-loop μ-loop) → Long (s .args .store .now) × (s .args .l < mostLinks)
-in-store s = (sound s .long, omega (arith, sound s .counts .links-most))
+in-store s = link-ready _ (s .pre .0) _ (s .pre .1)
 
 abbrev start : tie.In-loop Inv-loop μ-loop → tie.Start Inv-loop μ-loop
 start t = t .before .before .before .before .before .before
@@ -38,9 +39,7 @@ below t = omega (arith, t .before .before .before .before .rows .ensures)
 
 ready : (t : tie.In-loop Inv-loop μ-loop)
     → Long (start t .args .store .now) × ((start t .args .l < mostLinks) × (t .before .loop .k < mostRows))
-ready t =
-    let s = start t in
-    (in-store s .0, (in-store s .1, omega (arith, below t, link s .rows-most)))
+ready t = row-there _ (start t .pre .0) _ (start t .pre .1) _ (below t)
 
 row : (p : tie.After-row-place Inv-loop μ-loop)
     → Row (start (p .before .before) .args .store .now) (start (p .before .before) .args .l) (p .before .before .before .loop .k)
@@ -88,7 +87,7 @@ logical-requires : tie.Need-logical-requires Inv-loop μ-loop
 logical-requires c κs =
     let e = c .before in
     let r = row (e .before .before) in
-    (r .sound, (row-channel r, (row-place r, holds r (e .before .sent .ensures) (e .entered .ensures) (c .if1 .taken))))
+    (r .sound, (row-channel r, (row-place r, place-holds r (e .before .sent .ensures) (e .entered .ensures) (c .if1 .taken))))
 
 until-requires : tie.Need-until-requires Inv-loop μ-loop
 until-requires c κs = search needs
@@ -114,7 +113,7 @@ loop-again c =
     (λ v. rw (v .4, v .3 .ensures)
     (waiting-held _ _ _ _ _ _ (t .before .loop .inv) (r .below) (row-holds r x y (v .0 .taken)) _
     (row-wait r (h .before .clock .ensures) (h .horizon .ensures) (v .1 .ensures) (v .2 .ensures))))
-    (λ v. rw (v .1) (waiting-pass _ _ _ _ _ _ (t .before .loop .inv) (r .below) (row-holds-none r x y (v .0 .left))))
+    (λ v. rw (v .1) (waiting-pass _ _ _ _ _ _ (t .before .loop .inv) (r .below) (row-empty r x y (v .0 .left))))
     (c .if1 .came)
 
 returns : tie.Need-returns Inv-loop μ-loop

@@ -49,7 +49,7 @@ follows-above w l (suc k) h = refl
 no-row : (w : Store) (l k : ℕ) → k < rowsOf w l → rowSound w l k ≡ false → false ≡ rowsSound w l
 no-row w l k h e = rw (every-false (rowSound w l) (rowsOf w l) k h e)
 
--- Row k as it was read.
+-- Row k as it was read. (Store's `Row` is of a sound store; this one is not known to be sound yet.)
 pub record Row (w : Store) (l k x j : ℕ) : Type 0 where
   pub fit : Fit w
   pub below : k < rowsOf w l
