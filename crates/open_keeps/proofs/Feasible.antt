@@ -21,7 +21,8 @@ use Rattle.open_rules.proofs.Laws.Search.{smallest-is, rows-take}
 use Rattle.open_keeps.proofs.Insert.{Inserted, inserted-map}
 use Rattle.open_keeps.proofs.Place.{Away}
 use Rattle.store_same.proofs.Same.{SameRecord, c-same, p-same}
-use Rattle.open_keeps.proofs.Rows.{Entry, entry, entryDelay, Here, Rows, rows-here}
+use Rattle.store.proofs.Laws.Sound.{Stands}
+use Rattle.open_keeps.proofs.Rows.{Entry, entry, entryDelay, Rows, rows-here}
 use Rattle.open_keeps.proofs.Kept.{Opened, was-sound, open-keeps}
 use Rattle.open_keeps.proofs.Old.{old-delay}
 use Rattle.open_keeps.proofs.Away.{away-count, away-entry}
@@ -49,9 +50,9 @@ falls-never w l n f r i (suc k) h m =
 
 module _ {w w′ : Store} {q : Request} {d : ℕ → ℕ} (o : Opened w w′ q d) where
   -- an old row is the same row
-  kept-row : {l : ℕ} {e : Entry} → Here w l e → rowOf w′ e ≡ rowOf w e
-  kept-row {l} {e} h =
-      let same : SameRecord w w′ (e .0) = open-keeps o .channel (e .0) (h .channel) in
+  kept-row : {l x j : ℕ} → Stands w l x j → rowOf w′ (x, j) ≡ rowOf w (x, j)
+  kept-row {x = x} h =
+      let same : SameRecord w w′ x = open-keeps o .channel x (h .channel) in
       cc (c-same same, p-same same, old-delay (was-sound o) (open-keeps o) h)
 
   away-table : (l : ℕ) → l < linksOf w → Away (link q) (hops q) l → tableOf w′ l ≡ tableOf w l

@@ -4,40 +4,42 @@ use mathlib.Core.Path.{_≡_}
 use native.Mathlib.Omega.{arith}
 use Rattle.kinds.specs.Ranges.{mostHops}
 use Rattle.folds.specs.Folds.{sumTo}
-use Rattle.store.specs.Layout.{Store, IsChannel}
+use Rattle.store.specs.Layout.{Store, delayOf, IsChannel}
+use Rattle.store.specs.Amounts.{reservedOf}
 use Rattle.folds.proofs.Folds.{sum-same}
-use Rattle.store.proofs.Laws.Sound.{Sound, ChannelIs}
+use Rattle.store.proofs.Laws.Sound.{Sound, ChannelIs, Stands}
+use Rattle.store.proofs.Laws.Few.{few-places}
 use Rattle.store_same.proofs.Same.{SameRecord, Keeps, hops-same, route-same, delay-same, held-same, reserved-same, channel-same}
-use Rattle.open_keeps.proofs.Rows.{Entry, entryDelay, entryReserved, Here, Holds, Rows}
+use Rattle.open_keeps.proofs.Rows.{Entry, entryReserved, Holds, Rows}
 
 module _ {w w′ : Store} (sound : Sound w) (keeps : Keeps w w′) where
   pub old-channel : (x : ℕ) → IsChannel w x → ChannelIs w′ x
   old-channel x h =
       channel-same (keeps .channel x h) (keeps .network) (sound .counts .links-most) (sound .channel x h)
 
-  module _ {l : ℕ} {e : Entry} (h : Here w l e) where
-    same : SameRecord w w′ (e .0)
-    same = keeps .channel (e .0) (h .channel)
+  module _ {l x j : ℕ} (h : Stands w l x j) where
+    same : SameRecord w w′ x
+    same = keeps .channel x (h .channel)
 
-    inside : e .1 < mostHops
-    inside = omega (arith, h .place, sound .channel (e .0) (h .channel) .hops-most)
+    inside : j < mostHops
+    inside = few-places sound x j (h .channel) (h .place)
 
-    pub old-here : Here w′ l e
+    old-here : Stands w′ l x j
     old-here = record {
       channel = omega (arith, h .channel, keeps .more);
       place = rw (hops-same same) (h .place);
-      here = rw (route-same same (e .1) inside) (h .here);
+      here = rw (route-same same j inside) (h .here);
     }
 
-    pub old-delay : entryDelay w′ e ≡ entryDelay w e
-    old-delay = delay-same same (e .1) inside
+    pub old-delay : delayOf w′ x j ≡ delayOf w x j
+    old-delay = delay-same same j inside
 
-    pub old-reserved : entryReserved w′ e ≡ entryReserved w e
+    old-reserved : reservedOf w′ x j ≡ reservedOf w x j
     old-reserved =
-        reserved-same same (keeps .network) (sound .counts .links-most) (sound .channel (e .0) (h .channel)) (e .1) (h .place)
+        reserved-same same (keeps .network) (sound .counts .links-most) (sound .channel x (h .channel)) j (h .place)
 
-    pub old-holds : Holds w e → Holds w′ e
-    old-holds p = rw (held-same same (e .1) inside, old-reserved) p
+    old-holds : Holds w (x, j) → Holds w′ (x, j)
+    old-holds p = rw (held-same same j inside, old-reserved) p
 
   module _ {l n : ℕ} {f : ℕ → Entry} (r : Rows w l n f) where
     pub old-rows : Rows w′ l n f

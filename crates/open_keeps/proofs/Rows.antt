@@ -4,9 +4,9 @@ use Prim.Native.Nat.{ℕ, suc, _≤_, _<_}
 use mathlib.Core.Path.{_≡_, sym, _∙_, ap, subst, subst₂}
 use native.Mathlib.Omega.{arith}
 use Rattle.folds.specs.Folds.{sumTo}
-use Rattle.store.specs.Layout.{Store, bufferOf, rowsOf, rowChannelOf, rowPlaceOf, hopsOf, routeOf, delayOf, IsChannel}
+use Rattle.store.specs.Layout.{Store, bufferOf, rowsOf, rowChannelOf, rowPlaceOf, delayOf}
 use Rattle.store.specs.Amounts.{heldOf, reservedOf}
-use Rattle.store.proofs.Laws.Sound.{RowsAre, RowFor, Before}
+use Rattle.store.proofs.Laws.Sound.{Stands, RowsAre, RowFor, Before}
 use Rattle.open_keeps.proofs.Insert.{Inserted, inserted-each, inserted-pairs}
 
 -- what a row says: a channel, and a place of its route
@@ -25,11 +25,8 @@ entryDelay w e = delayOf w (e .0) (e .1)
 abbrev pub entryReserved : Store → Entry → ℕ
 entryReserved w e = reservedOf w (e .0) (e .1)
 
--- link l is there
-pub record Here (w : Store) (l : ℕ) (e : Entry) : Type 0 where
-  pub channel : IsChannel w (e .0)
-  pub place : e .1 < hopsOf w (e .0)
-  pub here : routeOf w (e .0) (e .1) ≡ l
+abbrev pub Here : Store → (l : ℕ) → Entry → Type 0
+Here w l e = Stands w l (e .0) (e .1)
 
 abbrev pub Holds : Store → Entry → Type 0
 Holds w e = heldOf w (e .0) (e .1) ≤ entryReserved w e
@@ -46,7 +43,7 @@ pub record Rows (w : Store) (l n : ℕ) (f : ℕ → Entry) : Type 0 where
 module _ {w : Store} {l : ℕ} where
   pub rows-here : RowsAre w l → Rows w l (rowsOf w l) (entry w l)
   rows-here r = record {
-    here = λ k h. let i = r .rows k h in record { channel = i .channel; place = i .place; here = i .here };
+    here = r .rows;
     holds = r .holds;
     sorted = r .sorted;
   }
@@ -54,7 +51,7 @@ module _ {w : Store} {l : ℕ} where
   pub here-rows : {n : ℕ} → rowsOf w l ≡ n → Rows w l n (entry w l)
       → sumTo (λ k. entryReserved w (entry w l k)) n ≤ bufferOf w l → RowsAre w l
   here-rows e r fits = record {
-    rows = λ k h. let i = r .here k (rw e at h) in record { channel = i .channel; place = i .place; here = i .here };
+    rows = λ k h. r .here k (rw e at h);
     sorted = λ k h. r .sorted k (rw e at h);
     holds = λ k h. r .holds k (rw e at h);
     fits = rw e fits;

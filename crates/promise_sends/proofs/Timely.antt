@@ -40,14 +40,14 @@ module _ {w : Store} {all : Accepted} (s : Seen w all) (on : Steady w all) where
     row-timely : InTime w all (sendAt w l x j)
     row-timely =
         let g = leaving (s .sound) l k here e in
-        let y = next-is (s .sound .channel x (g .channel)) (s .told x (g .channel)) j (g .place) (g .held) in
+        let y = next-is (s .sound .channel x (g .stands .channel)) (s .told x (g .stands .channel)) j (g .stands .place) (g .held) in
         let message : messageOf w x j - 1 ≡ y .n = omega (arith, y .number) in
         record {
-          known = g .channel;
+          known = g .stands .channel;
           told = rw message (y .inside);
           due = λ i h f.
-              rw (message, one-place i (g .channel) h f)
-              (before-due s (clockOf w) on x j (y .n) (g .channel) (g .place) (y .inside) (y .ends));
+              rw (message, one-place i (g .stands .channel) h f)
+              (before-due s (clockOf w) on x j (y .n) (g .stands .channel) (g .stands .place) (y .inside) (y .ends));
         }
 
   link-timely : (l position : ℕ) → l < linksOf w → pickOf w l ≡ position → Every (InTime w all) (sendFrom w l position)

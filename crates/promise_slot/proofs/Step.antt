@@ -105,7 +105,7 @@ module _ {w : Store} {all : Accepted} (s : Seen w all) where
     picks-row k e (inl d) =
         let g : _ = leaving (s .sound) l k here e in
         sends (keyOf w l k) (rw (keys-are w l here) (row-key w l (rowsOf w l) k (d .inside)))
-        (sends-one (rowChannelOf w l k) (rowPlaceOf w l k) (g .channel) (g .place) (g .goes)) (earliest k d)
+        (sends-one (rowChannelOf w l k) (rowPlaceOf w l k) (g .stands .channel) (g .stands .place) (g .goes)) (earliest k d)
     picks-row k e (inr d) = rests (idle (d .early))
 
     picks-there : Picks (planOf w) (trafficOf w all) (clockOf w) (sentOf (moved w)) l

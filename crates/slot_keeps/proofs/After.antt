@@ -29,7 +29,7 @@ module _ {w : Store} (s : Sound w) where
   to-frame n at few other =
       to-beside w n at (λ l k h e.
       let g = leaving s l k (omega arith) e in
-      other _ _ (few-channels s _ (g .channel)) (few-places s _ _ (g .channel) (g .place)))
+      other _ _ (few-channels s _ (g .stands .channel)) (few-places s _ _ (g .stands .channel) (g .stands .place)))
 
   module _ (x j : ℕ) (h : IsChannel w x) (i : j < hopsOf w x) where
     -- this place's count: no packet leaves here by the first n links
@@ -40,8 +40,8 @@ module _ {w : Store} (s : Sound w) where
         other : (l k : ℕ) → l < n → pickOf w l ≡ suc k → sentAt x j ≡ rowSentAt w l k → ⊥
         other l k m e a =
             let g = leaving s l k (omega arith) e in
-            let o = count-once x j _ _ (few-places s x j h i) (few-places s _ _ (g .channel) (g .place)) a in
-            still (rw (o .0, o .1, g .here) m) (rw (o .0, o .1) (g .goes))
+            let o = count-once x j _ _ (few-places s x j h i) (few-places s _ _ (g .stands .channel) (g .stands .place)) a in
+            still (rw (o .0, o .1, g .stands .here) m) (rw (o .0, o .1) (g .goes))
 
     -- one does
     pub to-goes : (n : ℕ) → routeOf w x j < n → leaves w x j ≡ true → sentOf (movedTo w n) x j ≡ sentOf w x j + 1

@@ -8,7 +8,7 @@ use native.Mathlib.Omega.{arith}
 use borrow.Author.Tests.{ltb-true, eqb-true, eq-eqb}
 use Rattle.store.specs.Layout.{Store, linksOf, rowChannelOf, rowPlaceOf, hopsOf, routeOf, sentOf, IsChannel}
 use Rattle.store.specs.Amounts.{enteredOf}
-use Rattle.store.proofs.Laws.Sound.{Good345, RowIs, Sound}
+use Rattle.store.proofs.Laws.Sound.{Good345, Stands, RowIs, Sound}
 use Rattle.slot_rules.specs.Pick.{pickOf}
 use Rattle.slot_rules.proofs.Laws.Pick.{picked}
 use Rattle.slot_keeps.specs.Room.{isOf, leaves}
@@ -24,9 +24,7 @@ place-once g i j h k e = go (decLt i j) (decLt j i)
 
 -- link l picks the row of channel x at place j
 pub record Leaving (w : Store) (l x j : ℕ) : Type 0 where
-  pub channel : IsChannel w x
-  pub place : j < hopsOf w x
-  pub here : routeOf w x j ≡ l
+  pub stands : Stands w l x j
   pub held : sentOf w x j < enteredOf w x j
   pub goes : leaves w x j ≡ true
 
@@ -43,9 +41,7 @@ module _ {w : Store} (s : Sound w) where
       let p = picked w l k e in
       let r : RowIs w l k = s .rows l h .rows k (p .0) in
       record {
-        channel = r .channel;
-        place = r .place;
-        here = r .here;
+        stands = r;
         held = ltb-true _ _ (p .1);
         goes = rw (r .here, e) (eq-eqb (rowChannelOf w l k) (rowChannelOf w l k) refl);
       }

@@ -108,7 +108,7 @@ module _ {w : Store} (s : Sound w) where
             last false f =
                 let g = leaving s l k h e in
                 rw (add-one j, f)
-                (is-room w x (suc j) (room-found x j (g .channel) (leb-false (hopsOf w x) (suc j) f) (g .goes) _ refl))
+                (is-room w x (suc j) (room-found x j (g .stands .channel) (leb-false (hopsOf w x) (suc j) f) (g .goes) _ refl))
 
 pub moved-sound : (w : Store) → soundOf w ≡ true → clockOf w < endSlot → soundOf (moved w) ≡ every (roomAfter w) (linksOf w)
 moved-sound w sound h =

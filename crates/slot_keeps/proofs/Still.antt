@@ -24,9 +24,9 @@ still-record {w} s x still = record {
         → at ≡ rowSentAt w l k → ⊥
     other l k h e at from to a =
         let g = leaving s l k h e in
-        let m = few-places s (rowChannelOf w l k) (rowPlaceOf w l k) (g .channel) (g .place) in
+        let m = few-places s (rowChannelOf w l k) (rowPlaceOf w l k) (g .stands .channel) (g .stands .place) in
         let n : rowChannelOf w l k ≡ x = omega arith in
         let t = rw n at (g .goes) in
-        let f = still (rowPlaceOf w l k) (rw n at (g .place)) in
+        let f = still (rowPlaceOf w l k) (rw n at (g .stands .place)) in
         let z : _≡_ {A = ℕ} 0 1 = cc in
         omega arith

@@ -71,8 +71,8 @@ module _ (w : Store) (sound : soundOf w ≡ true) (l : ℕ) (store : Store) (m :
       sent-there : sentOf store (rowChannelOf w l k) (rowPlaceOf w l k) ≡ sentOf w (rowChannelOf w l k) (rowPlaceOf w l k)
       sent-there =
           rw (m .same)
-          (to-stays s _ _ (row .leaves .channel) (row .leaves .place) l (m .place)
-          (λ f g. absurd (omega (arith, row .leaves .here))))
+          (to-stays s _ _ (row .leaves .stands .channel) (row .leaves .stands .place) l (m .place)
+          (λ f g. absurd (omega (arith, row .leaves .stands .here))))
 
       pub moving-ready : Long store × ((l < mostLinks) × ((k < mostRows) × ((rowChannelOf store l k < mostChannels)
           × ((rowPlaceOf store l k < mostHops) × (sentOf store (rowChannelOf store l k) (rowPlaceOf store l k) ≤ mostPackets)))))

@@ -50,12 +50,12 @@ module _ (w : Store) (sound : soundOf w ≡ true) (l : ℕ) (h : l < linksOf w) 
     pub row-at : (x j : ℕ) → x ≡ rowChannelOf w l k → j ≡ rowPlaceOf w l k → Row w l x j
     row-at x j a b = record {
       leaves = leaves;
-      ready = place-ready w sound x j (leaves .channel) (leaves .place);
-      message = message-is kept j (leaves .place) (leaves .held);
+      ready = place-ready w sound x j (leaves .stands .channel) (leaves .stands .place);
+      message = message-is kept j (leaves .stands .place) (leaves .held);
       sent-few = omega (
         arith,
         leaves .held,
-        entered-most kept j (leaves .place),
+        entered-most kept j (leaves .stands .place),
         kept .accepted-most,
         mul-le-mul (kept .good .c-most) (kept .messages-most),
       );
@@ -65,4 +65,4 @@ module _ (w : Store) (sound : soundOf w ≡ true) (l : ℕ) (h : l < linksOf w) 
         leaves = rw (a, b) (leaving s l k h e)
 
         kept : ChannelIs w x
-        kept = s .channel x (leaves .channel)
+        kept = s .channel x (leaves .stands .channel)

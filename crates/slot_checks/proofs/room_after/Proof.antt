@@ -65,7 +65,7 @@ takes-packet-requires c κs =
     let h = c .before in
     let r = h .before in
     let p = start (r .before .before .before) .pre in
-    (p .0, (p .1 .0, (row r .leaves .channel, omega (arith, h .hops .ensures))))
+    (p .0, (p .1 .0, (row r .leaves .stands .channel, omega (arith, h .hops .ensures))))
 
 returns-3 : tie.Need-returns-3
 returns-3 c =

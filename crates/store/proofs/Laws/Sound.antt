@@ -187,11 +187,15 @@ module _ (w : Store) (f : Fit w) where
   pub fit-flows : (x : ℕ) → IsChannel w x → (j : ℕ) → j < hopsOf w x → sentOf w x j ≤ enteredOf w x j
   fit-flows x h = fit-channel x h .flows
 
--- "each link's rows are .. the channels routed over it": row k is a place of a route, and this link is there
-pub record RowIs (w : Store) (l k : ℕ) : Type 0 where
-  pub channel : IsChannel w (rowChannelOf w l k)
-  pub place : rowPlaceOf w l k < hopsOf w (rowChannelOf w l k)
-  pub here : routeOf w (rowChannelOf w l k) (rowPlaceOf w l k) ≡ l
+-- channel x has link l at place j of its route
+pub record Stands (w : Store) (l x j : ℕ) : Type 0 where
+  pub channel : IsChannel w x
+  pub place : j < hopsOf w x
+  pub here : routeOf w x j ≡ l
+
+-- "each link's rows are .. the channels routed over it": what row k says
+abbrev pub RowIs : Store → (l k : ℕ) → Type 0
+RowIs w l k = Stands w l (rowChannelOf w l k) (rowPlaceOf w l k)
 
 -- "sorted by delay there and then by channel number"
 abbrev pub Before : (d x d′ x′ : ℕ) → Type 0
