@@ -33,12 +33,13 @@ module _ (w : Store) (x : ℕ) (sound : soundOf w ≡ true) (h : IsChannel w x) 
 
   -- "packets accepted are at most C for each message"
   accepted-small : acceptedOf w x ≤ mostC * mostNumber
-  accepted-small = omega (arith, channel .accepted-most, mul-le-mul (channel .good .c-most) (channel .messages-most))
+  accepted-small =
+      omega (arith, channel .course .accepted-most, mul-le-mul (channel .good .c-most) (channel .course .messages-most))
 
   -- each sum and product of the code, on the numbers as they were read
   pub time-fits : (n t p : ℕ) → n ≡ messagesOf w x → t ≡ timeOf w x n → p ≡ pOf w x → Fits w64 (t + p)
   time-fits n t p en et ep =
-      let a : t ≤ mostNumber = rw (et, en) (channel .time-most) in
+      let a : t ≤ mostNumber = rw (et, en) (channel .course .time-most) in
       let b : p ≤ mostP = rw ep (channel .good .p-most) in
       record { fits = omega arith }
 
@@ -49,7 +50,7 @@ module _ (w : Store) (x : ℕ) (sound : soundOf w ≡ true) (h : IsChannel w x) 
 
   pub count-fits : (n : ℕ) → n ≡ messagesOf w x → Fits w64 (n + 1)
   count-fits n en =
-      let a : n ≤ mostNumber = rw en (channel .messages-most) in
+      let a : n ≤ mostNumber = rw en (channel .course .messages-most) in
       record { fits = omega arith }
 
   module _ (packets : ℕ) (most : packets ≤ cOf w x) where

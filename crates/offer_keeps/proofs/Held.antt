@@ -18,7 +18,7 @@ module _ (w : Store) (x packets : ℕ) (h : x < mostChannels) (long : Long w) (k
   pub held-new : heldOf (offered w x packets) x 0 ≡ heldOf w x 0 + packets
   unfolding enteredOf
   held-new =
-      let f = k .flows 0 (k .hops-least) in
+      let f = k .course .flows 0 (k .hops-least) in
       rw (accepted-new, sent-kept w x packets 0 (omega arith)) (omega arith)
 
   pub held-later : (j : ℕ) → suc j < hopsOf w x → heldOf (offered w x packets) x (suc j) ≡ heldOf w x (suc j)

@@ -50,5 +50,5 @@ module _ (w : Store) (x packets : ℕ) (few : x < mostChannels) (long : Long w) 
   pub packet-stays : packetOf later x j ≡ packetOf w x j
   packet-stays =
       let m : MessageIs w x i n (ring - 2) mostNumber (messageOf w x j) =
-      rw fewer at (message-found w x i (sent-least k j h) n (ring - 2) mostNumber order accepted (k .time-most)) in
+      rw fewer at (message-found w x i (sent-least k j h) n (ring - 2) mostNumber order accepted (k .course .time-most)) in
       rw (message-stays, sent, end-kept w x packets (messageOf w x j - 1) (omega arith) (omega arith))

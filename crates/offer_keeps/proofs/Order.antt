@@ -80,7 +80,8 @@ module _ (w : Store) (x packets : ℕ) (h : x < mostChannels) (long : Long w) (k
   n = messagesOf w x
 
   delivered-most : deliveredOf w x ≤ acceptedOf w x
-  delivered-most = omega (arith, sent-least k 0 (k .hops-least), k .flows 0 (k .hops-least), entered-most k 0 (k .hops-least))
+  delivered-most =
+      omega (arith, sent-least k 0 (k .hops-least), k .course .flows 0 (k .hops-least), entered-most k 0 (k .hops-least))
 
   -- the new message is not delivered
   new-held : delivered later x (n + 1) ≡ false
@@ -96,7 +97,7 @@ module _ (w : Store) (x packets : ℕ) (h : x < mostChannels) (long : Long w) (k
       rw (offered-end w x packets h long, end-kept w x packets n (omega arith) (omega arith))
       (rw (offered-time w x packets h long, time-kept w x packets n (omega arith) (omega arith))
       (rw (delivered-kept w x packets h (k .hops-most), c-kept s x h, p-kept s x h)
-      (rw (lt-ltb _ _ one, le-leb _ _ all) (spaced w x n (ring - 2) (k .order)))))
+      (rw (lt-ltb _ _ one, le-leb _ _ all) (spaced w x n (ring - 2) (k .course .order)))))
 
   pub order-new : inOrder later x (n + 1) (ring - 1) ≡ inOrder w x n (ring - 2)
   order-new =

@@ -12,25 +12,14 @@ use Rattle.store.specs.Layout.{Store, ring, clockOf, cOf, pOf, bOf, hopsOf, mes
 use Rattle.store.specs.Amounts.{reservedOf, enteredOf, heldOf}
 use Rattle.store.specs.Sound.{inOrder, soundOf}
 use Rattle.folds.proofs.Folds.{one-test}
-use Rattle.store.proofs.Laws.Sound.{both, ChannelIs, Sound, sound-is, is-sound, held-most}
+use Rattle.store.proofs.Laws.Sound.{both, CourseIs, ChannelIs, Sound, sound-is, is-sound, held-most}
 use Rattle.store_same.proofs.Same.{channel-same, held-same}
-use Rattle.store_same.proofs.Settled.{Settled, CourseIs, network-same, channels-same, c-kept, hops-kept, reserved-kept}
-use Rattle.store_same.proofs.Settled.{settled-sound}
+use Rattle.store_same.proofs.Settled.{Settled, network-same, channels-same, c-kept, hops-kept, reserved-kept, settled-sound}
 use Rattle.offer_rules.specs.Offer.{offerTime, inBurst, offered}
 use Rattle.offer_keeps.specs.Room.{takesMessage}
 use Rattle.offer_keeps.proofs.Frame.{offered-clock, offered-other, offered-settled, offered-messages, offered-time}
 use Rattle.offer_keeps.proofs.Order.{sent-kept, order-new}
 use Rattle.offer_keeps.proofs.Held.{accepted-new, held-new, held-later}
-
--- the course of a channel whose record is as before
-course-of : {w : Store} {x : ℕ} → ChannelIs w x → CourseIs w x
-course-of k = record {
-  flows = k .flows;
-  messages-most = k .messages-most;
-  time-most = k .time-most;
-  accepted-most = k .accepted-most;
-  order = k .order;
-}
 
 module _ (w : Store) (x packets : ℕ) (sound : soundOf w ≡ true) (clock : clockOf w < endSlot) (h : IsChannel w x)
     (least : 1 ≤ packets) (most : packets ≤ cOf w x) (burst : inBurst w x ≡ true) where
@@ -78,12 +67,12 @@ module _ (w : Store) (x packets : ℕ) (sound : soundOf w ≡ true) (clock : clo
       flows = λ j i.
           let l : j < hopsOf w x = rw (hops-kept settled x few) at i in
           let m : j < mostHops = omega (arith, k .hops-most) in
-          omega (arith, k .flows j l, flows j l m, sent-kept w x packets j m);
+          omega (arith, k .course .flows j l, flows j l m, sent-kept w x packets j m);
       messages-most = rw (offered-messages w x packets few (s .long)) (leb-true (n + 1) mostNumber (counted .0));
       time-most = rw (offered-messages w x packets few (s .long), offered-time w x packets few (s .long)) time-small;
       accepted-most =
           rw (accepted-new w x packets few (s .long) k, c-kept settled x few, offered-messages w x packets few (s .long))
-          (omega (arith, k .accepted-most));
+          (omega (arith, k .course .accepted-most));
       order = rw (offered-messages w x packets few (s .long)) (order-is ∙ kept .0);
     }
 
@@ -94,7 +83,7 @@ module _ (w : Store) (x packets : ℕ) (sound : soundOf w ≡ true) (clock : clo
         go (yes e) = rw e own-course
         go (no e) =
             let same = offered-other w x packets y e in
-            course-of (channel-same same (network-same settled) (s .counts .links-most) (s .channel y i))
+            channel-same same (network-same settled) (s .counts .links-most) (s .channel y i) .course
 
     held : (y j : ℕ) → IsChannel w y → j < hopsOf w y → heldOf later y j ≤ reservedOf w y j
     held y j i l = go (ℕ-discrete y x) j l
@@ -120,8 +109,8 @@ module _ (w : Store) (x packets : ℕ) (sound : soundOf w ≡ true) (clock : clo
       let f = held-most t x 0 i (o .hops-least) in
       let g : heldOf w x 0 + packets ≤ reservedOf w x 0 =
       rw (held-new w x packets few (s .long) k, reserved-kept settled s x h 0 (k .hops-least)) at f in
-      both _ _ (le-leb (n + 1) mostNumber (rw (offered-messages w x packets few (s .long)) at (o .messages-most)))
-      (both _ _ (sym order-is ∙ (rw (offered-messages w x packets few (s .long)) at (o .order)))
+      both _ _ (le-leb (n + 1) mostNumber (rw (offered-messages w x packets few (s .long)) at (o .course .messages-most)))
+      (both _ _ (sym order-is ∙ (rw (offered-messages w x packets few (s .long)) at (o .course .order)))
       (le-leb (heldOf w x 0 + packets) (reservedOf w x 0) g))
 
   -- The second 17 of an offer: what the code looks at is whether the store after it is sound.

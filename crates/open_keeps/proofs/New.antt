@@ -53,11 +53,13 @@ module _ {w w′ : Store} {q : Request} {d : ℕ → ℕ} (o : Opened w w′ q d
         (o .after .route-is) (o .early .route));
     delay-least = λ j h. let i = asked j h in rw (o .after .delay-is j i) (least j i);
     delay-most = λ j h. let i = asked j h in rw (o .after .delay-is j i, o .after .p-is) (most j i);
-    flows = λ j h. omega (arith, o .after .sent-is j (asked j h));
-    messages-most = omega (arith, o .after .messages-is);
-    time-most = rw (o .after .messages-is, o .after .time-is) (omega arith);
-    accepted-most = omega (arith, new-accepted);
-    order = rw (o .after .messages-is) (none-in-order w′ (channelsOf w) (ring - 1) (o .after .end-is));
+    course = record {
+      flows = λ j h. omega (arith, o .after .sent-is j (asked j h));
+      messages-most = omega (arith, o .after .messages-is);
+      time-most = rw (o .after .messages-is, o .after .time-is) (omega arith);
+      accepted-most = omega (arith, new-accepted);
+      order = rw (o .after .messages-is) (none-in-order w′ (channelsOf w) (ring - 1) (o .after .end-is));
+    };
   }
     where
       asked : (j : ℕ) → j < hopsOf w′ (channelsOf w) → j < hops q

@@ -104,7 +104,7 @@ module _ {w : Store} {all : Accepted} (s : Seen w all) {x packets : ℕ} (p : Pa
         let held = few-held (cOf w x) (pOf w x) more order (Live w x d) 0 (sentOf w x 0) (ended 0 more) (bOf w x) (omega arith)
         (λ i l g _. let u = unsent-live s on burst p 0 (k .hops-least) i l g in (omega (arith, u .0), omega (arith, u .1)))
         (λ e times apart. on-first (pOf w x) e times apart (clockOf w) d (bOf w x) (k .good .b-least) (omega arith)) in
-        omega (arith, held, ended-more 0 ms (message w x packets), k .flows 0 (k .hops-least))
+        omega (arith, held, ended-more 0 ms (message w x packets), k .course .flows 0 (k .hops-least))
 
     pub takes-message : takesMessage w x packets ≡ true
     takes-message = both _ _ number-small (both _ _ order-kept (le-leb (heldOf w x 0 + packets) (reservedOf w x 0) held-small))

@@ -25,7 +25,7 @@ accepted-count {w} {x} {ms} t =
 -- and no place has sent more
 pub sent-most : {w : Store} {x : ℕ} {ms : List Message} → ChannelIs w x → Told w x ms → (j : ℕ) → j < hopsOf w x
     → sentOf w x j ≤ ended 0 ms
-sent-most k t j h = omega (arith, k .flows j h, entered-most k j h, accepted-count t)
+sent-most k t j h = omega (arith, k .course .flows j h, entered-most k j h, accepted-count t)
 
 pub entered-is : {w : Store} {x : ℕ} {ms : List Message} → Told w x ms → (j : ℕ) → entered (courseOf w ms x) j ≡ enteredOf w x j
 unfolding entered enteredOf
@@ -42,4 +42,4 @@ counted {w} {all} s x = record {
     flows : (j : ℕ) → j < placesOf w x → sentOf w x j ≤ entered (courseOf w (all x) x) j
     flows j i =
         let h : _ = place-is w x j i in
-        rw (entered-is (s .told x (h .0)) j) (s .sound .channel x (h .0) .flows j (h .1))
+        rw (entered-is (s .told x (h .0)) j) (s .sound .channel x (h .0) .course .flows j (h .1))

@@ -14,7 +14,7 @@ use Rattle.slot_keeps.specs.Room.{leaves, takesPacket, roomAfter}
 -- a place of a channel's route: what was sent there, and its link
 module _ (w : Store) (sound : soundOf w ≡ true) (x j : ℕ) (h : IsChannel w x) (i : j < hopsOf w x) where
   pub place-flows : sentOf w x j ≤ enteredOf w x j
-  place-flows = sound-is w sound .channel x h .flows j i
+  place-flows = sound-is w sound .channel x h .course .flows j i
 
   pub place-link : routeOf w x j < linksOf w
   place-link = sound-is w sound .channel x h .route .known j i

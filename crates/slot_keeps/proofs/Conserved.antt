@@ -11,8 +11,8 @@ use Rattle.store.proofs.Laws.Sound.{ChannelIs, Sound}
 conserved-to : {w : Store} {x : ℕ} → ChannelIs w x → (j : ℕ) → j < hopsOf w x
     → sumTo (heldOf w x) (suc j) + sentOf w x j ≡ acceptedOf w x
 unfolding sumTo enteredOf
-conserved-to k zero h = omega (arith, k .flows zero h)
-conserved-to k (suc j) h = omega (arith, k .flows (suc j) h, conserved-to k j (omega arith))
+conserved-to k zero h = omega (arith, k .course .flows zero h)
+conserved-to k (suc j) h = omega (arith, k .course .flows (suc j) h, conserved-to k j (omega arith))
 
 pub conserved : {w : Store} → Sound w → (x : ℕ) → IsChannel w x
     → sumTo (heldOf w x) (hopsOf w x) + deliveredOf w x ≡ acceptedOf w x

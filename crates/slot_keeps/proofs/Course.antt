@@ -11,8 +11,8 @@ use Rattle.store.specs.Layout.{Store, ring, cOf, pOf, hopsOf, messagesOf, sentO
 use Rattle.store.specs.Amounts.{deliveredOf, enteredOf}
 use Rattle.store.specs.Sound.{delivered, follows, inOrder}
 use Rattle.folds.proofs.Folds.{or-true}
-use Rattle.store.proofs.Laws.Sound.{both, Sound}
-use Rattle.store_same.proofs.Settled.{CourseIs, c-kept, p-kept, hops-kept}
+use Rattle.store.proofs.Laws.Sound.{both, CourseIs, Sound}
+use Rattle.store_same.proofs.Settled.{c-kept, p-kept, hops-kept}
 use Rattle.slot_rules.specs.Slot.{moved}
 use Rattle.slot_keeps.specs.Room.{leaves}
 use Rattle.store.proofs.Laws.Few.{few-channels}
@@ -65,7 +65,7 @@ module _ {w : Store} (s : Sound w) (x : ℕ) (h : IsChannel w x) where
     where
       go : (b : Bool) → leaves w x j ≡ b → sentOf (moved w) x j ≤ enteredOf (moved w) x j
       go true e = omega (arith, sent-goes s x j h i e, leaving-held s x j h i e, entered-least j i)
-      go false e = omega (arith, sent-stays s x j h i e, s .channel x h .flows j i, entered-least j i)
+      go false e = omega (arith, sent-stays s x j h i e, s .channel x h .course .flows j i, entered-least j i)
 
   delivered-least : deliveredOf w x ≤ deliveredOf (moved w) x
   delivered-least =
@@ -78,10 +78,10 @@ module _ {w : Store} (s : Sound w) (x : ℕ) (h : IsChannel w x) where
       let settled = moved-settled s in
       record {
         flows = λ j i. flows j (rw (hops-kept settled x few) at i);
-        messages-most = rw (messages-after s x few) (k .messages-most);
-        time-most = rw (messages-after s x few, time-after s x few (messagesOf w x)) (k .time-most);
-        accepted-most = rw (accepted-after s x few, c-kept settled x few, messages-after s x few) (k .accepted-most);
+        messages-most = rw (messages-after s x few) (k .course .messages-most);
+        time-most = rw (messages-after s x few, time-after s x few (messagesOf w x)) (k .course .time-most);
+        accepted-most = rw (accepted-after s x few, c-kept settled x few, messages-after s x few) (k .course .accepted-most);
         order = rw (messages-after s x few)
             (order-more w (moved w) x (c-kept settled x few) (p-kept settled x few) (time-after s x few) (end-after s x few)
-            delivered-least (messagesOf w x) (ring - 1) (k .order));
+            delivered-least (messagesOf w x) (ring - 1) (k .course .order));
       }

@@ -57,7 +57,7 @@ module _ {w : Store} (s : Sound w) (x j : ℕ) (h : IsChannel w x) (i : j < hops
   -- where one leaves, and another is held then
   pub next-in-order : leaves w x j ≡ true → sentOf (moved w) x j < enteredOf (moved w) x j
       → SameMessage w (moved w) x j ⊎ NextMessage w (moved w) x j
-  next-in-order e held = go (message-next w x u past (messagesOf w x) (ring - 1) (k .order) more)
+  next-in-order e held = go (message-next w x u past (messagesOf w x) (ring - 1) (k .course .order) more)
     where
       k : ChannelIs w x
       k = s .channel x h
@@ -84,7 +84,9 @@ module _ {w : Store} (s : Sound w) (x j : ℕ) (h : IsChannel w x) (i : j < hops
       now = message-is k j i (leaving-held s x j h i e)
 
       next : MessageIs w x (u + 1) (messagesOf w x) (ring - 1) mostNumber r′
-      next = message-found w x (u + 1) (omega (arith, past)) (messagesOf w x) (ring - 1) mostNumber (k .order) more (k .time-most)
+      next =
+          message-found w x (u + 1) (omega (arith, past)) (messagesOf w x) (ring - 1) mostNumber (k .course .order) more
+          (k .course .time-most)
 
       message : messageOf (moved w) x j ≡ r′
       message = rw sent (message-kept (u + 1))

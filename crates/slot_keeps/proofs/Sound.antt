@@ -87,7 +87,7 @@ module _ {w : Store} (s : Sound w) where
     room-found x j h i e false f =
         let k : j < hopsOf w x = omega arith in
         let m = rw (held-later (moved w) x j) at (held-within x (suc j) h i) in
-        let n = flows-later w x j (s .channel x h .flows (suc j) i) in
+        let n = flows-later w x j (s .channel x h .course .flows (suc j) i) in
         inl (rw (held-later w x j) (omega (arith, sent-goes s x j h k e, sent-stays s x (suc j) h i f)))
 
     pub sound-rooms : (l : ℕ) → l < linksOf w → roomAfter w l ≡ true

@@ -56,8 +56,8 @@ module _ (w : Store) (sound : soundOf w ≡ true) (l : ℕ) (h : l < linksOf w) 
         arith,
         leaves .held,
         entered-most kept j (leaves .stands .place),
-        kept .accepted-most,
-        mul-le-mul (kept .good .c-most) (kept .messages-most),
+        kept .course .accepted-most,
+        mul-le-mul (kept .good .c-most) (kept .course .messages-most),
       );
     }
       where

@@ -13,11 +13,11 @@ use Rattle.store.specs.Amounts.{enteredOf}
 use Rattle.store.specs.Sound.{soundOf}
 use Rattle.folds.proofs.Folds.{sum-same}
 use Rattle.store.proofs.Laws.Layout.{written, beside, as-long}
-use Rattle.store.proofs.Laws.Sound.{Sound, sound-is, is-sound, held-most}
+use Rattle.store.proofs.Laws.Sound.{CourseIs, Sound, sound-is, is-sound, held-most}
 use Rattle.slot_rules.specs.Head.{messageWith, messageOf, logicalOf, isHeld}
 use Rattle.slot_rules.specs.Pick.{rowHeld, rowLogical}
 use Rattle.store_same.proofs.Same.{SameRecord, channel-same, held-same}
-use Rattle.store_same.proofs.Settled.{Settled, CourseIs, network-same, settled-sound}
+use Rattle.store_same.proofs.Settled.{Settled, network-same, settled-sound}
 
 -- a clock that is set to what it was
 pub clock-stays : (w : Store) (n : ℕ) → n ≡ 0 → withClock w (clockOf w + n) ≡ w
@@ -118,11 +118,4 @@ clock-sound w t e h =
 
     course : (x : ℕ) → IsChannel w x → CourseIs (withClock w t) x
     course x i =
-        let k = channel-same (record-same w t x) (network-same (clock-settled w t)) (s .counts .links-most) (s .channel x i) in
-        record {
-          flows = k .flows;
-          messages-most = k .messages-most;
-          time-most = k .time-most;
-          accepted-most = k .accepted-most;
-          order = k .order;
-        }
+        channel-same (record-same w t x) (network-same (clock-settled w t)) (s .counts .links-most) (s .channel x i) .course

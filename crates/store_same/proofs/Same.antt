@@ -129,11 +129,13 @@ module _ {w w′ : Store} {x : ℕ} (same : SameRecord w w′ x) where
           (good-same network few (routeOf w x) (routeOf w′ x) (hopsOf w x) (λ j h. route-same j (inside j h)) (k .route));
       delay-least = λ j h. let i = old j h in rw (delay-same j (inside j i)) (k .delay-least j i);
       delay-most = λ j h. let i = old j h in rw (delay-same j (inside j i), p-same) (k .delay-most j i);
-      flows = λ j h. let i = old j h in rw (sent-same j (inside j i), entered-same j (inside j i)) (k .flows j i);
-      messages-most = rw messages-same (k .messages-most);
-      time-most = rw (messages-same, time-same (messagesOf w x)) (k .time-most);
-      accepted-most = rw (accepted-same, c-same, messages-same) (k .accepted-most);
-      order = rw (messages-same, order-same (k .hops-most) (messagesOf w x) (ring - 1)) (k .order);
+      course = record {
+        flows = λ j h. let i = old j h in rw (sent-same j (inside j i), entered-same j (inside j i)) (k .course .flows j i);
+        messages-most = rw messages-same (k .course .messages-most);
+        time-most = rw (messages-same, time-same (messagesOf w x)) (k .course .time-most);
+        accepted-most = rw (accepted-same, c-same, messages-same) (k .course .accepted-most);
+        order = rw (messages-same, order-same (k .hops-most) (messagesOf w x) (ring - 1)) (k .course .order);
+      };
     }
       where
         inside : (j : ℕ) → j < hopsOf w x → j < mostHops

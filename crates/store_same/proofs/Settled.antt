@@ -1,21 +1,20 @@
 -- Two stores of which the second has all that set-up and opens have settled in the first: the network, every link's rows, and
 -- each channel's numbers, route and delays. Only the clock, and how far channels are, may differ. Such a store is sound where
 -- those are.
-use Prim.Native.Nat.{ℕ, zero, suc, _+_, _-_, _*_, _≤_, _<_}
+use Prim.Native.Nat.{ℕ, zero, suc, _+_, _≤_, _<_}
 use mathlib.Core.Path.{_≡_}
-use mathlib.Core.Bool.{true}
 use native.Mathlib.Omega.{arith}
 use lib.ListN.{length}
-use Rattle.kinds.specs.Ranges.{mostLinks, mostChannels, mostRows, mostHops, mostNumber, endSlot}
-use Rattle.store.specs.Layout.{Store, ring, numberAt, channelAt, linksAt, channelsAt, clockAt, fromAt, toAt, horizonAt, bufferAt}
+use Rattle.kinds.specs.Ranges.{mostLinks, mostChannels, mostRows, mostHops, endSlot}
+use Rattle.store.specs.Layout.{Store, numberAt, channelAt, linksAt, channelsAt, clockAt, fromAt, toAt, horizonAt, bufferAt}
 use Rattle.store.specs.Layout.{rowsAt, rowChannelAt, rowPlaceAt, cAt, messagesAt, routeAt, delayAt, sentAt, courseEnd, linksOf}
-use Rattle.store.specs.Layout.{channelsOf, clockOf, rowsOf, rowChannelOf, rowPlaceOf, cOf, pOf, dOf, bOf, hopsOf, messagesOf}
-use Rattle.store.specs.Layout.{routeOf, delayOf, sentOf, timeOf, IsChannel}
+use Rattle.store.specs.Layout.{channelsOf, clockOf, rowsOf, rowChannelOf, rowPlaceOf, cOf, pOf, dOf, bOf, hopsOf, routeOf}
+use Rattle.store.specs.Layout.{delayOf, IsChannel}
 use Rattle.folds.specs.Folds.{sumTo}
-use Rattle.store.specs.Amounts.{reservedOf, acceptedOf, enteredOf, heldOf, reservedAlong}
-use Rattle.store.specs.Sound.{inOrder, rowDelayOf, rowReservedOf}
+use Rattle.store.specs.Amounts.{reservedOf, heldOf, reservedAlong}
+use Rattle.store.specs.Sound.{rowDelayOf, rowReservedOf}
 use Rattle.folds.proofs.Folds.{sum-mono}
-use Rattle.store.proofs.Laws.Sound.{LinkIs, ChannelIs, RowIs, Before, RowsAre, RowFor, Sound}
+use Rattle.store.proofs.Laws.Sound.{LinkIs, CourseIs, ChannelIs, RowIs, Before, RowsAre, RowFor, Sound}
 use Rattle.store.proofs.Laws.Few.{few-channels, few-links, few-places, few-rows}
 use Rattle.store_same.proofs.Same.{SameNetwork, good-same}
 
@@ -26,14 +25,6 @@ pub record Settled (w w′ : Store) : Type 0 where
       → ((x : ℕ) → x < mostChannels → at ≡ messagesAt x → ⊥)
       → ((x : ℕ) → x < mostChannels → sentAt x 0 ≤ at → at < courseEnd x → ⊥)
       → numberAt w′ at ≡ numberAt w at
-
--- of a channel that is sound, what may differ: how far it is
-pub record CourseIs (w : Store) (x : ℕ) : Type 0 where
-  pub flows : (j : ℕ) → j < hopsOf w x → sentOf w x j ≤ enteredOf w x j
-  pub messages-most : messagesOf w x ≤ mostNumber
-  pub time-most : timeOf w x (messagesOf w x) ≤ mostNumber
-  pub accepted-most : acceptedOf w x ≤ cOf w x * messagesOf w x
-  pub order : inOrder w x (messagesOf w x) (ring - 1) ≡ true
 
 module _ {w w′ : Store} (s : Settled w w′) where
   -- below the channels' records only the clock differs
@@ -118,11 +109,7 @@ module _ {w w′ : Store} (s : Settled w w′) where
         delay-most = λ j i.
             let n = inside j i in
             rw (delay-kept x a j (few-places sound x j h n), p-kept x a) (old .delay-most j n);
-        flows = k .flows;
-        messages-most = k .messages-most;
-        time-most = k .time-most;
-        accepted-most = k .accepted-most;
-        order = k .order;
+        course = k;
       }
         where
           a : x < mostChannels

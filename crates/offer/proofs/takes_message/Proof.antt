@@ -31,7 +31,7 @@ in-order-requires c κs =
     let s = c .before .before .before .before in
     let k = channel _ _ (s .pre .0) (s .pre .1 .0) in
     let r = readable _ _ (s .pre .0) (s .pre .1 .0) in
-    (r .0, (r .1, (omega (arith, c .before .before .messages .ensures, k .messages-most), (k .hops-least, k .hops-most))))
+    (r .0, (r .1, (omega (arith, c .before .before .messages .ensures, k .course .messages-most), (k .hops-least, k .hops-most))))
 
 returns-2 : tie.Need-returns-2
 returns-2 c =
@@ -46,7 +46,7 @@ held-requires c κs =
     let s = c .before .before .before .before .before .before in
     let k = channel _ _ (s .pre .0) (s .pre .1 .0) in
     let r = readable _ _ (s .pre .0) (s .pre .1 .0) in
-    (r .0, (r .1, (omega arith, k .flows 0 (k .hops-least))))
+    (r .0, (r .1, (omega arith, k .course .flows 0 (k .hops-least))))
 
 add-result : tie.Need-add-result
 add-result c =

@@ -90,7 +90,7 @@ module _ {w : Store} {x : ℕ} (k : ChannelIs w x) where
   sent-falls i zero l h = let e : i ≡ 0 = omega arith in rw e (omega arith)
   sent-falls i (suc j) l h =
       below i (suc j) (omega arith)
-      (λ m. omega (arith, k .flows (suc j) h, sent-falls i j (omega arith) (omega arith))) (λ e. rw e (omega arith))
+      (λ m. omega (arith, k .course .flows (suc j) h, sent-falls i j (omega arith) (omega arith))) (λ e. rw e (omega arith))
 
   pub sent-least : (j : ℕ) → j < hopsOf w x → deliveredOf w x ≤ sentOf w x j
   sent-least j h = sent-falls j (hopsOf w x - 1) (omega arith) (omega (arith, k .hops-least))
@@ -98,10 +98,10 @@ module _ {w : Store} {x : ℕ} (k : ChannelIs w x) where
   pub entered-most : (j : ℕ) → j < hopsOf w x → enteredOf w x j ≤ acceptedOf w x
   unfolding enteredOf
   entered-most zero h = omega arith
-  entered-most (suc j) h = omega (arith, k .flows j (omega arith), entered-most j (omega arith))
+  entered-most (suc j) h = omega (arith, k .course .flows j (omega arith), entered-most j (omega arith))
 
   pub message-is : (j : ℕ) → j < hopsOf w x → sentOf w x j < enteredOf w x j
       → MessageIs w x (sentOf w x j) (messagesOf w x) (ring - 1) mostNumber (messageOf w x j)
   message-is j h i =
-      message-found w x (sentOf w x j) (sent-least j h) (messagesOf w x) (ring - 1) mostNumber (k .order)
-      (omega (arith, entered-most j h)) (k .time-most)
+      message-found w x (sentOf w x j) (sent-least j h) (messagesOf w x) (ring - 1) mostNumber (k .course .order)
+      (omega (arith, entered-most j h)) (k .course .time-most)

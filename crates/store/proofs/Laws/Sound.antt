@@ -96,7 +96,15 @@ module _ (w : Store) (route : ℕ → ℕ) (n : ℕ) where
       (both _ _ (every-true (isNew route) n (λ j h. every-true (differs route j) j (λ i l. rw (ne-eqb (route i) (route j) (g .new j i h l)))))
       (every-true (joins w route) n (joins-at g)))
 
--- "its channels pass 1 to 5", "delays 1 to p", and the counts of a channel
+-- how far a channel is: its counts, and its messages
+pub record CourseIs (w : Store) (x : ℕ) : Type 0 where
+  pub flows : (j : ℕ) → j < hopsOf w x → sentOf w x j ≤ enteredOf w x j
+  pub messages-most : messagesOf w x ≤ mostNumber
+  pub time-most : timeOf w x (messagesOf w x) ≤ mostNumber
+  pub accepted-most : acceptedOf w x ≤ cOf w x * messagesOf w x
+  pub order : inOrder w x (messagesOf w x) (ring - 1) ≡ true
+
+-- "its channels pass 1 to 5", "delays 1 to p", and how far it is
 pub record ChannelIs (w : Store) (x : ℕ) : Type 0 where
   pub good : GoodChannel (cOf w x) (pOf w x) (dOf w x) (bOf w x)
   pub hops-least : 1 ≤ hopsOf w x
@@ -104,11 +112,7 @@ pub record ChannelIs (w : Store) (x : ℕ) : Type 0 where
   pub route : Good345 w (routeOf w x) (hopsOf w x)
   pub delay-least : (j : ℕ) → j < hopsOf w x → 1 ≤ delayOf w x j
   pub delay-most : (j : ℕ) → j < hopsOf w x → delayOf w x j ≤ pOf w x
-  pub flows : (j : ℕ) → j < hopsOf w x → sentOf w x j ≤ enteredOf w x j
-  pub messages-most : messagesOf w x ≤ mostNumber
-  pub time-most : timeOf w x (messagesOf w x) ≤ mostNumber
-  pub accepted-most : acceptedOf w x ≤ cOf w x * messagesOf w x
-  pub order : inOrder w x (messagesOf w x) (ring - 1) ≡ true
+  pub course : CourseIs w x
 
 module _ (w : Store) (x : ℕ) where
   pub channel-is : channelSound w x ≡ true → ChannelIs w x
@@ -128,11 +132,13 @@ module _ (w : Store) (x : ℕ) where
         route = route-is w (routeOf w x) (hopsOf w x) (two .1);
         delay-least = λ j h. place j (every-at (placeFits w x) (hopsOf w x) (rest .0) j h) .0 .0;
         delay-most = λ j h. place j (every-at (placeFits w x) (hopsOf w x) (rest .0) j h) .0 .1;
-        flows = λ j h. place j (every-at (placeFits w x) (hopsOf w x) (rest .0) j h) .1;
-        messages-most = leb-true (messagesOf w x) mostNumber (numbers .0);
-        time-most = leb-true (timeOf w x (messagesOf w x)) mostNumber (numbers .1);
-        accepted-most = leb-true (acceptedOf w x) (cOf w x * messagesOf w x) (most .0);
-        order = most .1;
+        course = record {
+          flows = λ j h. place j (every-at (placeFits w x) (hopsOf w x) (rest .0) j h) .1;
+          messages-most = leb-true (messagesOf w x) mostNumber (numbers .0);
+          time-most = leb-true (timeOf w x (messagesOf w x)) mostNumber (numbers .1);
+          accepted-most = leb-true (acceptedOf w x) (cOf w x * messagesOf w x) (most .0);
+          order = most .1;
+        };
       }
     where
       place : (j : ℕ) → placeFits w x j ≡ true
@@ -145,12 +151,16 @@ module _ (w : Store) (x : ℕ) where
   is-channel k =
       both _ _
       (both _ _ (bounds-channel _ _ _ _ (k .good))
-      (both _ _ (true-within 1 mostHops (hopsOf w x) (k .hops-least) (k .hops-most)) (is-route w (routeOf w x) (hopsOf w x) (k .route))))
+      (both _ _ (true-within 1 mostHops (hopsOf w x) (k .hops-least) (k .hops-most))
+      (is-route w (routeOf w x) (hopsOf w x) (k .route))))
       (both _ _
       (every-true (placeFits w x) (hopsOf w x) (λ j h.
-      both _ _ (true-within 1 (pOf w x) (delayOf w x j) (k .delay-least j h) (k .delay-most j h)) (le-leb (sentOf w x j) (enteredOf w x j) (k .flows j h))))
-      (both _ _ (both _ _ (le-leb (messagesOf w x) mostNumber (k .messages-most)) (le-leb (timeOf w x (messagesOf w x)) mostNumber (k .time-most)))
-      (both _ _ (le-leb (acceptedOf w x) (cOf w x * messagesOf w x) (k .accepted-most)) (k .order))))
+      both _ _ (true-within 1 (pOf w x) (delayOf w x j) (k .delay-least j h) (k .delay-most j h))
+      (le-leb (sentOf w x j) (enteredOf w x j) (k .course .flows j h))))
+      (both _ _
+      (both _ _ (le-leb (messagesOf w x) mostNumber (k .course .messages-most))
+      (le-leb (timeOf w x (messagesOf w x)) mostNumber (k .course .time-most)))
+      (both _ _ (le-leb (acceptedOf w x) (cOf w x * messagesOf w x) (k .course .accepted-most)) (k .course .order))))
 
 -- What the first parts give to those that come after them.
 module _ (w : Store) (f : Fit w) where
@@ -185,7 +195,7 @@ module _ (w : Store) (f : Fit w) where
   fit-rows l h = fit-link l h .rows-most
 
   pub fit-flows : (x : ℕ) → IsChannel w x → (j : ℕ) → j < hopsOf w x → sentOf w x j ≤ enteredOf w x j
-  fit-flows x h = fit-channel x h .flows
+  fit-flows x h = fit-channel x h .course .flows
 
 -- channel x has link l at place j of its route
 pub record Stands (w : Store) (l x j : ℕ) : Type 0 where
