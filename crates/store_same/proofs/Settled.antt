@@ -1,15 +1,15 @@
 -- Two stores of which the second has all that set-up and opens have settled in the first: the network, every link's rows, and
 -- each channel's numbers, route and delays. Only the clock, and how far channels are, may differ. Such a store is sound where
 -- those are.
-use Prim.Native.Nat.{ℕ, zero, suc, _+_, _≤_, _<_}
+use Prim.Native.Nat.{ℕ, zero, suc, _≤_, _<_}
 use mathlib.Core.Path.{_≡_}
 use native.Mathlib.Omega.{arith}
 use lib.ListN.{length}
 use Rattle.kinds.specs.Ranges.{mostLinks, mostChannels, mostRows, mostHops, endSlot}
 use Rattle.store.specs.Layout.{Store, numberAt, channelAt, linksAt, channelsAt, clockAt, fromAt, toAt, horizonAt, bufferAt}
-use Rattle.store.specs.Layout.{rowsAt, rowChannelAt, rowPlaceAt, cAt, messagesAt, routeAt, delayAt, sentAt, courseEnd, linksOf}
-use Rattle.store.specs.Layout.{channelsOf, clockOf, rowsOf, rowChannelOf, rowPlaceOf, cOf, pOf, dOf, bOf, hopsOf, routeOf}
-use Rattle.store.specs.Layout.{delayOf, IsChannel}
+use Rattle.store.specs.Layout.{rowsAt, rowChannelAt, rowPlaceAt, cAt, pAt, dAt, bAt, hopsAt, messagesAt, routeAt, delayAt, sentAt}
+use Rattle.store.specs.Layout.{courseEnd, linksOf, channelsOf, clockOf, rowsOf, rowChannelOf, rowPlaceOf, cOf, pOf, dOf, bOf}
+use Rattle.store.specs.Layout.{hopsOf, routeOf, delayOf, IsChannel}
 use Rattle.folds.specs.Folds.{sumTo}
 use Rattle.store.specs.Amounts.{reservedOf, heldOf, reservedAlong}
 use Rattle.store.specs.Sound.{rowDelayOf, rowReservedOf}
@@ -57,24 +57,20 @@ module _ {w w′ : Store} (s : Settled w w′) where
   }
 
   module _ (x : ℕ) (h : x < mostChannels) where
-    -- of its record, the numbers at the front but for how many messages there are
-    front-same : (i : ℕ) → i < 24 → (i ≡ 5 → ⊥) → numberAt w′ (channelAt x + i) ≡ numberAt w (channelAt x + i)
-    front-same i a other = s .frame (channelAt x + i) (λ e. omega arith) (λ u y e. omega arith) (λ u y l m. omega arith)
-
     pub c-kept : cOf w′ x ≡ cOf w x
     c-kept = s .frame (cAt x) (λ e. omega arith) (λ u y e. omega arith) (λ u y l m. omega arith)
 
     pub p-kept : pOf w′ x ≡ pOf w x
-    p-kept = front-same 1 (omega arith) (λ e. omega arith)
+    p-kept = s .frame (pAt x) (λ e. omega arith) (λ u y e. omega arith) (λ u y l m. omega arith)
 
     pub d-kept : dOf w′ x ≡ dOf w x
-    d-kept = front-same 2 (omega arith) (λ e. omega arith)
+    d-kept = s .frame (dAt x) (λ e. omega arith) (λ u y e. omega arith) (λ u y l m. omega arith)
 
     pub b-kept : bOf w′ x ≡ bOf w x
-    b-kept = front-same 3 (omega arith) (λ e. omega arith)
+    b-kept = s .frame (bAt x) (λ e. omega arith) (λ u y e. omega arith) (λ u y l m. omega arith)
 
     pub hops-kept : hopsOf w′ x ≡ hopsOf w x
-    hops-kept = front-same 4 (omega arith) (λ e. omega arith)
+    hops-kept = s .frame (hopsAt x) (λ e. omega arith) (λ u y e. omega arith) (λ u y l m. omega arith)
 
     pub route-kept : (j : ℕ) → j < mostHops → routeOf w′ x j ≡ routeOf w x j
     route-kept j i = s .frame (routeAt x j) (λ e. omega arith) (λ u y e. omega arith) (λ u y l m. omega arith)

@@ -6,12 +6,19 @@ use lib.ListN.{length, length-set}
 use Rattle.kinds.specs.Ranges.{mostChannels, mostHops}
 use Rattle.store.specs.Layout.{Store, Long, numberAt, channelAt, recordLength, cleared, cAt, pAt, dAt, bAt, hopsAt, messagesAt}
 use Rattle.store.specs.Layout.{routeAt, delayAt, sentAt, timeAt, endAt, cOf, pOf, dOf, bOf, hopsOf, messagesOf, routeOf, delayOf}
-use Rattle.store.specs.Layout.{sentOf, timeOf, endOf, withC, withP, withD, withB, withRoute}
+use Rattle.store.specs.Layout.{sentOf, timeOf, endOf, withC, withP, withD, withB, withRoute, routeStart}
 use Rattle.store.proofs.Laws.Layout.{written, beside}
 use Rattle.folds.proofs.Folds.{below}
 use Rattle.store.proofs.Laws.Cleared.{cleared-length, cleared-beside, cleared-zero}
 use Rattle.open_rules.specs.Request.{Request, hops, link}
 use Rattle.open_rules.specs.Join.{numbersWritten, placesWritten, channelWritten}
+
+-- where the five numbers that were asked for stand, and where the route and the delays
+abbrev Numbers : (x at : ℕ) → Type 0
+Numbers x at = (cAt x ≤ at) × (at ≤ hopsAt x)
+
+abbrev Places : (x at : ℕ) → Type 0
+Places x at = (routeStart x ≤ at) × (at < delayAt x mostHops)
 
 -- the five numbers that were asked for
 module _ (w : Store) (x : ℕ) (q : Request) where
@@ -31,13 +38,13 @@ module _ (w : Store) (x : ℕ) (q : Request) where
   numbers-length : length (numbersWritten w x q) ≡ length w
   numbers-length = simp length-set
 
-  numbers-beside : (at : ℕ) → (channelAt x ≤ at → at < channelAt x + 5 → ⊥) → numberAt (numbersWritten w x q) at ≡ numberAt w at
+  numbers-beside : (at : ℕ) → (Numbers x at → ⊥) → numberAt (numbersWritten w x q) at ≡ numberAt w at
   numbers-beside at h =
-      beside four (hopsAt x) (hops q) at (λ e. h (omega arith) (omega arith))
-      ∙ (beside three (bAt x) (q .b) at (λ e. h (omega arith) (omega arith))
-      ∙ (beside two (dAt x) (q .d) at (λ e. h (omega arith) (omega arith))
-      ∙ (beside one (pAt x) (q .p) at (λ e. h (omega arith) (omega arith))
-      ∙ beside w (cAt x) (q .c) at (λ e. h (omega arith) (omega arith)))))
+      beside four (hopsAt x) (hops q) at (λ e. h (omega arith, omega arith))
+      ∙ (beside three (bAt x) (q .b) at (λ e. h (omega arith, omega arith))
+      ∙ (beside two (dAt x) (q .d) at (λ e. h (omega arith, omega arith))
+      ∙ (beside one (pAt x) (q .p) at (λ e. h (omega arith, omega arith))
+      ∙ beside w (cAt x) (q .c) at (λ e. h (omega arith, omega arith)))))
 
   module _ (long : Long w) (few : x < mostChannels) where
     numbers-hops : hopsOf (numbersWritten w x q) x ≡ hops q
@@ -83,13 +90,12 @@ module _ (w : Store) (x : ℕ) (route delays : ℕ → ℕ) where
   places-length zero = refl
   places-length (suc n) = simp length-set (places-length n)
 
-  places-beside : (n : ℕ) → n ≤ mostHops → (at : ℕ) → (channelAt x + 8 ≤ at → at < channelAt x + 24 → ⊥)
-      → numberAt (places n) at ≡ numberAt w at
+  places-beside : (n : ℕ) → n ≤ mostHops → (at : ℕ) → (Places x at → ⊥) → numberAt (places n) at ≡ numberAt w at
   unfolding placesWritten
   places-beside zero few at h = refl
   places-beside (suc n) few at h =
-      beside (linked n) (delayAt x n) (delays n) at (λ e. h (omega arith) (omega arith))
-      ∙ (beside (places n) (routeAt x n) (route n) at (λ e. h (omega arith) (omega arith))
+      beside (linked n) (delayAt x n) (delays n) at (λ e. h (omega arith, omega arith))
+      ∙ (beside (places n) (routeAt x n) (route n) at (λ e. h (omega arith, omega arith))
       ∙ places-beside n (omega arith) at h)
 
   module _ (long : Long w) (channel : x < mostChannels) where
@@ -132,14 +138,14 @@ module _ (w : Store) (x : ℕ) (q : Request) (d : ℕ → ℕ) where
 
   module _ (few : hops q ≤ mostHops) where
     -- a number that is none of the route nor of the delays
-    still : (at : ℕ) → (channelAt x + 8 ≤ at → at < channelAt x + 24 → ⊥) → numberAt whole at ≡ numberAt numbers at
+    still : (at : ℕ) → (Places x at → ⊥) → numberAt whole at ≡ numberAt numbers at
     unfolding channelWritten
     still = places-beside numbers x (link q) d (hops q) few
 
     pub channel-beside : (at : ℕ) → (channelAt x ≤ at → at < channelAt x + recordLength → ⊥) → numberAt whole at ≡ numberAt w at
     channel-beside at h =
-        still at (λ l m. h (omega arith) (omega arith))
-        ∙ (numbers-beside zeros x q at (λ l m. h l (omega arith))
+        still at (λ i. h (omega arith) (omega arith))
+        ∙ (numbers-beside zeros x q at (λ i. h (omega arith) (omega arith))
         ∙ cleared-beside w x recordLength at h)
 
     module _ (long : Long w) (channel : x < mostChannels) where
@@ -150,19 +156,19 @@ module _ (w : Store) (x : ℕ) (q : Request) (d : ℕ → ℕ) where
       long-numbers = rw (numbers-length zeros x q) long-zeros
 
       pub channel-c : cOf whole x ≡ q .c
-      channel-c = still (cAt x) (λ l m. omega arith) ∙ numbers-c zeros x q long-zeros channel
+      channel-c = still (cAt x) (λ i. omega arith) ∙ numbers-c zeros x q long-zeros channel
 
       pub channel-p : pOf whole x ≡ q .p
-      channel-p = still (pAt x) (λ l m. omega arith) ∙ numbers-p zeros x q long-zeros channel
+      channel-p = still (pAt x) (λ i. omega arith) ∙ numbers-p zeros x q long-zeros channel
 
       pub channel-d : dOf whole x ≡ q .d
-      channel-d = still (dAt x) (λ l m. omega arith) ∙ numbers-d zeros x q long-zeros channel
+      channel-d = still (dAt x) (λ i. omega arith) ∙ numbers-d zeros x q long-zeros channel
 
       pub channel-b : bOf whole x ≡ q .b
-      channel-b = still (bAt x) (λ l m. omega arith) ∙ numbers-b zeros x q long-zeros channel
+      channel-b = still (bAt x) (λ i. omega arith) ∙ numbers-b zeros x q long-zeros channel
 
       pub channel-hops : hopsOf whole x ≡ hops q
-      channel-hops = still (hopsAt x) (λ l m. omega arith) ∙ numbers-hops zeros x q long-zeros channel
+      channel-hops = still (hopsAt x) (λ i. omega arith) ∙ numbers-hops zeros x q long-zeros channel
 
       pub channel-route : (j : ℕ) → j < hops q → routeOf whole x j ≡ link q j
       unfolding channelWritten
@@ -173,24 +179,22 @@ module _ (w : Store) (x : ℕ) (q : Request) (d : ℕ → ℕ) where
       channel-delay = places-delay numbers x (link q) d long-numbers channel (hops q) few
 
       -- what is not named is 0
-      channel-zero : (at i : ℕ) → at ≡ channelAt x + i → i < recordLength → (i < 5 → ⊥) → (8 ≤ i → i < 24 → ⊥)
+      channel-zero : (at : ℕ) → channelAt x ≤ at → at < channelAt x + recordLength → (Numbers x at → ⊥) → (Places x at → ⊥)
           → numberAt whole at ≡ 0
-      channel-zero at i e h l m =
-          still at (λ a b. m (omega arith) (omega arith))
-          ∙ (numbers-beside zeros x q at (λ a b. l (omega arith))
-          ∙ rw e (cleared-zero w x recordLength i h (omega arith)))
+      channel-zero at a b l m =
+          still at m ∙ (numbers-beside zeros x q at l ∙ cleared-zero w x recordLength at a b (omega arith))
 
       pub channel-messages : messagesOf whole x ≡ 0
-      channel-messages = channel-zero (messagesAt x) 5 (omega arith) (omega arith) (λ a. omega arith) (λ a b. omega arith)
+      channel-messages = channel-zero (messagesAt x) (omega arith) (omega arith) (λ i. omega arith) (λ i. omega arith)
 
       pub channel-sent : (j : ℕ) → j < mostHops → sentOf whole x j ≡ 0
-      channel-sent j h = channel-zero (sentAt x j) (24 + j) (omega arith) (omega arith) (λ a. omega arith) (λ a b. omega arith)
+      channel-sent j h = channel-zero (sentAt x j) (omega arith) (omega arith) (λ i. omega arith) (λ i. omega arith)
 
       pub channel-time : timeOf whole x 0 ≡ 0
-      channel-time = channel-zero (timeAt x 0) 32 (omega arith) (omega arith) (λ a. omega arith) (λ a b. omega arith)
+      channel-time = channel-zero (timeAt x 0) (omega arith) (omega arith) (λ i. omega arith) (λ i. omega arith)
 
       pub channel-end : endOf whole x 0 ≡ 0
-      channel-end = channel-zero (endAt x 0) 56 (omega arith) (omega arith) (λ a. omega arith) (λ a b. omega arith)
+      channel-end = channel-zero (endAt x 0) (omega arith) (omega arith) (λ i. omega arith) (λ i. omega arith)
 
 -- only the delays along the route are looked at
 places-same : (w : Store) (x : ℕ) (route d e : ℕ → ℕ) (n : ℕ) → ((j : ℕ) → j < n → d j ≡ e j)

@@ -12,8 +12,9 @@ use Rattle.store.specs.Layout.{linksOf, channelsOf, clockOf, fromOf, toOf, hori
 use Rattle.store.proofs.Laws.Layout.{written, beside, as-long, stays-long}
 use Rattle.setup_list.specs.List.{linksIn, fromIn, toIn, horizonIn, bufferIn}
 use Rattle.setup_fresh.specs.Fresh.{zeroed, linksWritten, freshStore}
-use Rattle.setup_fresh.proofs.Laws.Written.{zeroed-length, zeroed-below, zeroed-beyond, links-length, links-beside, links-from, links-to}
-use Rattle.setup_fresh.proofs.Laws.Written.{links-horizon, links-buffer, zeroed-forgets, links-front}
+use Rattle.setup_fresh.proofs.Laws.Written.{zeroed-length, zeroed-below, zeroed-beyond, links-length, links-beside}
+use Rattle.setup_fresh.proofs.Laws.Written.{links-from, links-to, links-horizon, links-buffer, zeroed-forgets, links-front}
+use Rattle.setup_fresh.proofs.Laws.Written.{Numbers}
 
 module _ (w : Store) (numbers : List ℕ) where
   -- the cleared store with the number of links, into which the links are written
@@ -36,7 +37,7 @@ module _ (w : Store) (numbers : List ℕ) where
       pub fresh-links : linksOf (freshStore w numbers) ≡ linksIn numbers
       unfolding freshStore
       fresh-links =
-          links-beside headed numbers (linksIn numbers) linksAt (λ l i a b e. omega arith)
+          links-beside headed numbers (linksIn numbers) linksAt (λ l a e. omega arith)
           ∙ written (zeroed w) linksAt (linksIn numbers) (rw (zeroed-length w long) (omega arith))
 
       module _ (l : ℕ) (h : l < linksIn numbers) where
@@ -56,29 +57,29 @@ module _ (w : Store) (numbers : List ℕ) where
         unfolding freshStore
         fresh-buffer = links-buffer headed numbers headed-long (linksIn numbers) l h few
 
-  -- every other number of the store is 0: it is not the number of links, and none of the first four of a link's record
+  -- every other number of the store is 0: it is not the number of links, and none of a link's numbers
   pub fresh-zero : (at : ℕ) → at < storeLength → (at ≡ linksAt → ⊥)
-      → ((l i : ℕ) → l < linksIn numbers → i < 4 → at ≡ linkAt l + i → ⊥) → numberAt (freshStore w numbers) at ≡ 0
+      → ((l : ℕ) → l < linksIn numbers → Numbers l at → ⊥) → numberAt (freshStore w numbers) at ≡ 0
   unfolding freshStore
   fresh-zero at h first other =
       links-beside headed numbers (linksIn numbers) at other
       ∙ (beside (zeroed w) linksAt (linksIn numbers) at first ∙ zeroed-below w at h)
 
   pub fresh-channels : channelsOf (freshStore w numbers) ≡ 0
-  fresh-channels = fresh-zero channelsAt (omega arith) (λ e. omega arith) (λ l i a b e. omega arith)
+  fresh-channels = fresh-zero channelsAt (omega arith) (λ e. omega arith) (λ l a e. omega arith)
 
   pub fresh-clock : clockOf (freshStore w numbers) ≡ 0
-  fresh-clock = fresh-zero clockAt (omega arith) (λ e. omega arith) (λ l i a b e. omega arith)
+  fresh-clock = fresh-zero clockAt (omega arith) (λ e. omega arith) (λ l a e. omega arith)
 
   pub fresh-rows : (l : ℕ) → l < mostLinks → rowsOf (freshStore w numbers) l ≡ 0
-  fresh-rows l h = fresh-zero (rowsAt l) (omega arith) (λ e. omega arith) (λ m i a b e. omega arith)
+  fresh-rows l h = fresh-zero (rowsAt l) (omega arith) (λ e. omega arith) (λ m a e. omega arith)
 
   -- what lies beyond the store's length is as it was
   pub fresh-beyond : linksIn numbers ≤ mostLinks → (at : ℕ) → storeLength ≤ at → numberAt (freshStore w numbers) at ≡ numberAt w at
   unfolding freshStore
   fresh-beyond few at h =
       let e : storeLength + (at - storeLength) ≡ at = omega arith in
-      links-beside headed numbers (linksIn numbers) at (λ l i a b k. omega arith)
+      links-beside headed numbers (linksIn numbers) at (λ l a k. omega arith)
       ∙ (beside (zeroed w) linksAt (linksIn numbers) at (λ k. omega arith) ∙ (rw e at (zeroed-beyond w (at - storeLength))))
 
 -- "set-up does not read what the store held": after it two stores are the same, as far as the store goes

@@ -3,12 +3,12 @@ use Prim.Native.Nat.{ℕ, zero, suc, _+_, _≤_, _<_}
 use mathlib.Core.Path.{_≡_, refl, sym, _∙_}
 use mathlib.Core.List.{List, _++_}
 use native.Mathlib.Omega.{arith}
-use lib.ListN.{length, replicate, take, drop, length-set, length-append, length-replicate, length-drop}
-use lib.ListN.{getD-replicate, List·getD-append}
+use lib.ListN.{length, replicate, take, drop, length-set, length-append, length-replicate, length-drop, getD-replicate}
+use lib.ListN.{List·getD-append}
 use lib.Seq.{getD-append-add, getD-drop, take-at, take-set-lt}
 use Rattle.kinds.specs.Ranges.{mostLinks}
-use Rattle.store.specs.Layout.{Store, Long, storeLength, numberAt, linkAt, fromAt, toAt, horizonAt, bufferAt, fromOf, toOf, horizonOf, bufferOf}
-use Rattle.store.specs.Layout.{withFrom, withTo, withHorizon}
+use Rattle.store.specs.Layout.{Store, Long, storeLength, numberAt, linkAt, fromAt, toAt, horizonAt, bufferAt, fromOf, toOf}
+use Rattle.store.specs.Layout.{horizonOf, bufferOf, withFrom, withTo, withHorizon}
 use Rattle.store.proofs.Laws.Layout.{written, beside}
 use Rattle.folds.proofs.Folds.{below}
 use Rattle.setup_list.specs.List.{fromIn, toIn, horizonIn, bufferIn}
@@ -54,6 +54,10 @@ pub zeroed-forgets : (w v : Store) → take storeLength (zeroed w) ≡ take stor
 unfolding zeroed
 zeroed-forgets w v = to-front storeLength w ∙ sym (to-front storeLength v)
 
+-- where the four numbers of link l stand
+abbrev pub Numbers : (l at : ℕ) → Type 0
+Numbers l at = (fromAt l ≤ at) × (at ≤ bufferAt l)
+
 module _ (w : Store) (numbers : List ℕ) (l : ℕ) where
   -- the store after one, two and three of the link's four writes
   abbrev one : Store
@@ -70,7 +74,7 @@ module _ (w : Store) (numbers : List ℕ) (l : ℕ) where
   link-length = simp length-set
 
   -- what is written into a front part
-  link-front : (n : ℕ) → linkAt l + 4 ≤ n → take n (linkWritten w numbers l) ≡ linkWritten (take n w) numbers l
+  link-front : (n : ℕ) → bufferAt l < n → take n (linkWritten w numbers l) ≡ linkWritten (take n w) numbers l
   unfolding linkWritten
   link-front n h =
       let buffer = take-set-lt n three (bufferAt l) (bufferIn numbers l) (omega arith) in
@@ -79,14 +83,14 @@ module _ (w : Store) (numbers : List ℕ) (l : ℕ) where
       let from = take-set-lt n w (fromAt l) (fromIn numbers l) (omega arith) in
       rw (buffer, horizon, to, from)
 
-  -- any number but the first four of the link's record is as before
-  link-beside : (at : ℕ) → ((i : ℕ) → i < 4 → at ≡ linkAt l + i → ⊥) → numberAt (linkWritten w numbers l) at ≡ numberAt w at
+  -- any other number is as before
+  link-beside : (at : ℕ) → (Numbers l at → ⊥) → numberAt (linkWritten w numbers l) at ≡ numberAt w at
   unfolding linkWritten
   link-beside at h =
-      beside three (bufferAt l) (bufferIn numbers l) at (λ e. h 3 (omega arith) e)
-      ∙ (beside two (horizonAt l) (horizonIn numbers l) at (λ e. h 2 (omega arith) e)
-      ∙ (beside one (toAt l) (toIn numbers l) at (λ e. h 1 (omega arith) e)
-      ∙ beside w (fromAt l) (fromIn numbers l) at (λ e. h 0 (omega arith) (omega arith))))
+      beside three (bufferAt l) (bufferIn numbers l) at (λ e. h (omega arith, omega arith))
+      ∙ (beside two (horizonAt l) (horizonIn numbers l) at (λ e. h (omega arith, omega arith))
+      ∙ (beside one (toAt l) (toIn numbers l) at (λ e. h (omega arith, omega arith))
+      ∙ beside w (fromAt l) (fromIn numbers l) at (λ e. h (omega arith, omega arith))))
 
   -- and those are the list's
   module _ (long : Long w) (few : l < mostLinks) where
@@ -122,13 +126,13 @@ module _ (w : Store) (numbers : List ℕ) where
   links-length zero = refl
   links-length (suc n) = link-length (linksWritten w numbers n) numbers n ∙ links-length n
 
-  pub links-beside : (n at : ℕ) → ((l i : ℕ) → l < n → i < 4 → at ≡ linkAt l + i → ⊥)
+  pub links-beside : (n at : ℕ) → ((l : ℕ) → l < n → Numbers l at → ⊥)
       → numberAt (linksWritten w numbers n) at ≡ numberAt w at
   unfolding linksWritten
   links-beside zero at h = refl
   links-beside (suc n) at h =
-      link-beside (linksWritten w numbers n) numbers n at (λ i k. h n i (omega arith) k)
-      ∙ links-beside n at (λ l i k. h l i (omega arith))
+      link-beside (linksWritten w numbers n) numbers n at (h n (omega arith))
+      ∙ links-beside n at (λ l k. h l (omega arith))
 
   pub links-front : (n size : ℕ) → linkAt n ≤ size → take size (linksWritten w numbers n) ≡ linksWritten (take size w) numbers n
   unfolding linksWritten
@@ -137,13 +141,13 @@ module _ (w : Store) (numbers : List ℕ) where
       rw (link-front (linksWritten w numbers n) numbers n size (omega arith), links-front n size (omega arith))
 
   -- a number of link l is not written again by the links after it
-  links-at : (n l at : ℕ) → l < n → linkAt l ≤ at → at < linkAt l + 4
+  links-at : (n l at : ℕ) → l < n → Numbers l at
       → numberAt (linksWritten w numbers n) at ≡ numberAt (linkWritten (linksWritten w numbers l) numbers l) at
   unfolding linksWritten
-  links-at zero l at h a b = absurd (omega arith)
-  links-at (suc n) l at h a b =
+  links-at zero l at h a = absurd (omega arith)
+  links-at (suc n) l at h a =
       below l n h
-      (λ k. link-beside (linksWritten w numbers n) numbers n at (λ i s e. omega arith) ∙ links-at n l at k a b)
+      (λ k. link-beside (linksWritten w numbers n) numbers n at (λ e. omega arith) ∙ links-at n l at k a)
       (λ e. rw e)
 
   module _ (long : Long w) (n l : ℕ) (h : l < n) (few : n ≤ mostLinks) where
@@ -154,13 +158,13 @@ module _ (w : Store) (numbers : List ℕ) where
     still = rw (links-length l) long
 
     pub links-from : fromOf (linksWritten w numbers n) l ≡ fromIn numbers l
-    links-from = links-at n l (fromAt l) h (omega arith) (omega arith) ∙ link-from so-far numbers l still (omega arith)
+    links-from = links-at n l (fromAt l) h (omega arith, omega arith) ∙ link-from so-far numbers l still (omega arith)
 
     pub links-to : toOf (linksWritten w numbers n) l ≡ toIn numbers l
-    links-to = links-at n l (toAt l) h (omega arith) (omega arith) ∙ link-to so-far numbers l still (omega arith)
+    links-to = links-at n l (toAt l) h (omega arith, omega arith) ∙ link-to so-far numbers l still (omega arith)
 
     pub links-horizon : horizonOf (linksWritten w numbers n) l ≡ horizonIn numbers l
-    links-horizon = links-at n l (horizonAt l) h (omega arith) (omega arith) ∙ link-horizon so-far numbers l still (omega arith)
+    links-horizon = links-at n l (horizonAt l) h (omega arith, omega arith) ∙ link-horizon so-far numbers l still (omega arith)
 
     pub links-buffer : bufferOf (linksWritten w numbers n) l ≡ bufferIn numbers l
-    links-buffer = links-at n l (bufferAt l) h (omega arith) (omega arith) ∙ link-buffer so-far numbers l still (omega arith)
+    links-buffer = links-at n l (bufferAt l) h (omega arith, omega arith) ∙ link-buffer so-far numbers l still (omega arith)

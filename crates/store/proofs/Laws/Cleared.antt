@@ -21,14 +21,13 @@ module _ (w : Store) (x : ℕ) where
       rw (beside (cleared w x i) (channelAt x + i) 0 at (λ e. h (omega arith) (omega arith)))
       (cleared-beside i at (λ l m. h l (omega arith)))
 
-  pub cleared-zero : (n i : ℕ) → i < n → channelAt x + n ≤ length w → numberAt (cleared w x n) (channelAt x + i) ≡ 0
+  pub cleared-zero : (n at : ℕ) → channelAt x ≤ at → at < channelAt x + n → channelAt x + n ≤ length w
+      → numberAt (cleared w x n) at ≡ 0
   unfolding cleared
-  cleared-zero zero i h l = absurd (omega arith)
-  cleared-zero (suc n) i h l =
-      below i n h
-      (λ m.
-      rw (beside (cleared w x n) (channelAt x + n) 0 (channelAt x + i) (λ e. omega arith))
-      (cleared-zero n i m (omega arith)))
+  cleared-zero zero at a b l = absurd (omega arith)
+  cleared-zero (suc n) at a b l =
+      below at (channelAt x + n) (omega arith)
+      (λ m. rw (beside (cleared w x n) (channelAt x + n) 0 at (λ e. omega arith)) (cleared-zero n at a m (omega arith)))
       (λ s. rw s (written (cleared w x n) (channelAt x + n) 0 (omega (arith, cleared-length n))))
 
 -- a loop that clears, from 0 up
