@@ -1,19 +1,19 @@
--- An accepted offer does not change which packet goes next at a place of the channel: where one is held, it is the same packet of
--- the same message.
+-- An accepted offer does not change what goes next at a place of the channel: where a packet is held, it is one of the same
+-- message.
 use Prim.Native.Nat.{ℕ, _-_, _<_}
 use mathlib.Core.Path.{_≡_, _∙_, sym}
 use mathlib.Core.Bool.{true}
 use native.Mathlib.Numerals.{add-one}
 use native.Mathlib.Omega.{arith}
-use Rattle.kinds.specs.Ranges.{mostChannels, mostNumber}
+use Rattle.kinds.specs.Ranges.{mostChannels}
 use Rattle.store.specs.Layout.{Store, Long, ring, hopsOf, messagesOf, sentOf, endOf}
 use Rattle.store.specs.Amounts.{acceptedOf, enteredOf}
 use Rattle.store.specs.Sound.{inOrder}
 use Rattle.store.proofs.Laws.Sound.{ChannelIs}
-use Rattle.slot_rules.specs.Head.{messageWith, messageOf, packetOf}
+use Rattle.slot_rules.specs.Head.{messageWith, messageOf}
 use Rattle.offer_rules.specs.Offer.{offered}
 use Rattle.slot_rules.proofs.Laws.Ends.{message-same, message-before, message-kept}
-use Rattle.slot_rules.proofs.Laws.Head.{MessageIs, message-found, sent-least, entered-most}
+use Rattle.slot_rules.proofs.Laws.Head.{sent-least, entered-most}
 use Rattle.offer_keeps.proofs.Frame.{offered-messages}
 use Rattle.offer_keeps.proofs.Order.{sent-kept, end-kept}
 
@@ -46,9 +46,3 @@ module _ (w : Store) (x packets : ℕ) (few : x < mostChannels) (long : Long w) 
       rw (sent, offered-messages w x packets few long, add-one n)
       (message-before later x i n (ring - 2) last
       ∙ (message-same w later x i n (ring - 2) (λ m a b. end-kept w x packets m (omega arith) (omega arith)) ∙ fewer))
-
-  pub packet-stays : packetOf later x j ≡ packetOf w x j
-  packet-stays =
-      let m : MessageIs w x i n (ring - 2) mostNumber (messageOf w x j) =
-      rw fewer at (message-found w x i (sent-least k j h) n (ring - 2) mostNumber order accepted (k .course .time-most)) in
-      rw (message-stays, sent, end-kept w x packets (messageOf w x j - 1) (omega arith) (omega arith))

@@ -35,14 +35,6 @@ jobs-next e x p pos h = ap (λ n. n / p) split ∙ add-div-right (x + p - (e + p
     split : x + p - e ≡ x + p - (e + p) + p
     split = omega arith
 
--- F3: only the distance counts
-pub jobs-shift : (e x p s : ℕ) → jobs (e + s) (x + s) p ≡ jobs e x p
-unfolding jobs
-jobs-shift e x p s = ap (λ n. n / p) same
-  where
-    same : x + s + p - (e + s) ≡ x + p - e
-    same = omega arith
-
 -- The same of a row's demand.
 module _ (y : Row) (pos : 1 ≤ y .p) where
   pub demand-mono : (s s′ x : ℕ) → s′ ≤ s → demand y s x ≤ demand y s′ x

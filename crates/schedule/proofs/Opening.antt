@@ -38,9 +38,6 @@ row-q-none new rows q s before after x e n h = omega (arith, s .least (length be
         go (no ne) = s .all before′ after′ x′ e′ (omega arith)
         go (yes n′) = rw (← same-before before before′ _ _ both n′, ← same-at before before′ after after′ x x′ both n′) h
 
-pub smallest-none : (new : Row) (rows : List Row) → AllAfter new rows 0 → Smallest new rows 0
-smallest-none new rows all = record { all = all; least = λ k h. omega arith }
-
 pub smallest-row : (new : Row) (rows before after : List Row) (x : Row) → rows ≡ before ++ (x ∷ after)
     → AllAfter new rows (suc (length before)) → (HasResponse (x .c) (new ∷ before) (x .delay) → ⊥)
     → Smallest new rows (suc (length before))

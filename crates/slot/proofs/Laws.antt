@@ -2,7 +2,7 @@
 use Prim.Native.Nat.{ℕ, _*_, _≤_, _<_}
 use mathlib.Core.Path.{_≡_, refl, sym}
 use mathlib.Core.Bool.{true}
-use mathlib.Core.List.{List, []}
+use mathlib.Core.List.{List}
 use mathlib.Core.Logic.{_⊎_, inl, inr}
 use native.Mathlib.Omega.{arith}
 use lib.ListN.{length, take}
@@ -14,8 +14,8 @@ use Rattle.store.specs.Sound.{soundOf}
 use Rattle.checks.proofs.Laws.{AllHold, accepted-all, refused-one}
 use Rattle.slot_rules.specs.declared.Turn.{Turn}
 use Rattle.slot_rules.specs.declared.Turn.the-variants.{Ran, Refused}
-use Rattle.slot_rules.specs.Slot.{Send, numbers, slotSends, moved, slotChecks, slotTurn, slotNumber, slotPlace, slotSent, slotStore}
-use Rattle.slot_rules.specs.Slot.{written, slotOut}
+use Rattle.slot_rules.specs.Slot.{Send, numbers, slotSends, moved, slotChecks, slotTurn, slotNumber, slotPlace, slotSent}
+use Rattle.slot_rules.specs.Slot.{slotStore, written, slotOut}
 use Rattle.slot_rules.proofs.Laws.Sends.{numbers-length, sends-most, written-none}
 use Rattle.slot_pick.specs.Picks.{picksTo}
 use Rattle.slot_checks.specs.Left.{picksLeft}
@@ -56,9 +56,6 @@ module _ (w : Store) (size : ℕ) where
   module _ (number place : ℕ) (e : slotTurn w size ≡ Refused number place) where
     pub refused-store : slotStore w size ≡ w
     refused-store = rw e
-
-    pub refused-sends : slotSent w size ≡ []
-    refused-sends = rw e
 
     pub refused-number : Refusal number place
     unfolding slotTurn

@@ -2,7 +2,7 @@
 use Prim.Native.Nat.{ℕ, _+_, _-_, _≤_, _<_}
 use mathlib.Core.Path.{_≡_}
 use mathlib.Core.Logic.{_⊎_, inl, inr}
-use mathlib.Core.Bool.{true, false}
+use mathlib.Core.Bool.{true}
 use native.Mathlib.Omega.{arith}
 use Rattle.kinds.specs.Ranges.{mostNumber}
 use Rattle.store.specs.Layout.{Store, ring, hopsOf, messagesOf, sentOf, endOf, IsChannel}
@@ -17,7 +17,7 @@ use Rattle.slot_rules.proofs.Laws.Next.{NextIs, message-next}
 use Rattle.slot_keeps.specs.Room.{leaves}
 use Rattle.store.proofs.Laws.Few.{few-channels}
 use Rattle.slot_keeps.proofs.Leaves.{leaving-held}
-use Rattle.slot_keeps.proofs.After.{moved-settled, messages-after, end-after, accepted-after, sent-goes, sent-stays}
+use Rattle.slot_keeps.proofs.After.{moved-settled, messages-after, end-after, accepted-after, sent-goes}
 use Rattle.slot_keeps.proofs.Course.{course}
 
 -- how many packets message r has
@@ -43,16 +43,6 @@ module _ {w : Store} (s : Sound w) (x j : ℕ) (h : IsChannel w x) (i : j < hops
   message-kept u =
       let few = few-channels s x h in
       rw (messages-after s x few) (message-same w (moved w) x u (messagesOf w x) (ring - 1) (λ m a b. end-after s x few m))
-
-  -- where no packet leaves, the same one goes next
-  pub same-next : leaves w x j ≡ false → (messageOf (moved w) x j ≡ messageOf w x j) × (packetOf (moved w) x j ≡ packetOf w x j)
-  same-next e = (message, rw (message, sent, end-after s x (few-channels s x h) (messageOf w x j - 1)))
-    where
-      sent : sentOf (moved w) x j ≡ sentOf w x j
-      sent = sent-stays s x j h i e
-
-      message : messageOf (moved w) x j ≡ messageOf w x j
-      message = rw sent (message-kept (sentOf w x j))
 
   -- where one leaves, and another is held then
   pub next-in-order : leaves w x j ≡ true → sentOf (moved w) x j < enteredOf (moved w) x j

@@ -6,7 +6,7 @@ use native.Mathlib.Omega.{arith}
 use lib.ListN.{length, replicate, set, length-set}
 use Rattle.store.specs.Layout.{numberAt}
 use Rattle.folds.proofs.Folds.{below}
-use Rattle.store.proofs.Laws.Layout.{written, beside, zeros}
+use Rattle.store.proofs.Laws.Layout.{written, beside}
 use Rattle.open_rules.specs.Shares.{eight}
 
 module _ (f : ℕ → ℕ) where
@@ -30,11 +30,6 @@ module _ (f : ℕ → ℕ) where
       below j n h
       (λ k. rw (beside (eight f n) n (f n) j (λ e. omega arith)) (eight-at n j k (omega arith)))
       (λ e. rw e (written (eight f n) n (f n) (omega (arith, eight-length n))))
-
-  pub eight-past : (n j : ℕ) → n ≤ j → numberAt (eight f n) j ≡ 0
-  unfolding eight
-  eight-past zero j h = zeros 8 j
-  eight-past (suc n) j h = rw (beside (eight f n) n (f n) j (λ e. omega arith)) (eight-past n j (omega arith))
 
 -- two that agree below n
 pub eight-same : (f g : ℕ → ℕ) (n : ℕ) → ((j : ℕ) → j < n → f j ≡ g j) → eight f n ≡ eight g n

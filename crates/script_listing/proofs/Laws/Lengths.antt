@@ -24,19 +24,12 @@ module _ (word : Text) (numbers : List ℕ) where
   unfolding lineOf
   line-length = rw length-append (omega (arith, phrase-length))
 
-  pub line-least : 1 ≤ length (lineOf word numbers)
-  unfolding lineOf
-  line-least = simp length-append (omega arith)
-
 module _ (x : Send) where
   abbrev five : List ℕ
   five = x .slot ∷ (x .link ∷ (x .channel ∷ (x .message ∷ (x .packet ∷ []))))
 
   pub send-length : length (sendLine x) ≤ 110
   send-length = line-length sendWord five
-
-  pub send-least : 1 ≤ length (sendLine x)
-  send-least = line-least sendWord five
 
 pub sends-length : (numbers : List ℕ) (n : ℕ) → length (sendLinesIn numbers n) ≤ 110 * n
 unfolding sendLinesIn
@@ -61,7 +54,3 @@ module _ (responses delays reserved : List ℕ) where
     pub channel-length : length (channelLine channel responses delays reserved hops) ≤ 29 + 63 * hops
     unfolding channelLine
     channel-length = simp length-append (omega (arith, spaced-length (channel ∷ []), shares-length hops))
-
-    pub channel-least : 1 ≤ length (channelLine channel responses delays reserved hops)
-    unfolding channelLine
-    channel-least = simp length-append (omega arith)

@@ -1,5 +1,5 @@
 -- The answer of set-up as facts about the list and the store, and the store after it.
-use Prim.Native.Nat.{ℕ, _*_, _≤_, _<_}
+use Prim.Native.Nat.{ℕ, _≤_, _<_}
 use mathlib.Core.Path.{_≡_, refl, sym, _∙_}
 use mathlib.Core.Bool.{Bool, true, false}
 use mathlib.Core.List.{List}
@@ -14,7 +14,7 @@ use Rattle.store.specs.Layout.{Store, Long, storeLength, fromOf, toOf, horizonO
 use Rattle.store.specs.Sound.{longEnough}
 use Rattle.folds.proofs.Folds.{every-at}
 use Rattle.setup.specs.declared.SetUp.the-variants.{Ready, Refused}
-use Rattle.setup_list.proofs.Laws.Links.{passes-at, pass-whole}
+use Rattle.setup_list.proofs.Laws.Links.{passes-at}
 use Rattle.setup_fresh.proofs.Laws.Fresh.{fresh-from, fresh-to, fresh-horizon, fresh-buffer}
 use Rattle.setup_list.specs.List.{linksIn, fromIn, toIn, horizonIn, bufferIn, linkPassesAt, linksPass}
 use Rattle.setup_fresh.specs.Fresh.{freshStore}
@@ -85,16 +85,13 @@ module _ (w : Store) (numbers : List ℕ) where
   unfolding setUpStore
   refused-store number place e = rw e
 
--- what is accepted: the count as bounds, no part of a link, each link in range
+-- what is accepted: the count as bounds, each link in range
 module _ (w : Store) (numbers : List ℕ) (a : Accepted w numbers) where
   pub accepted-some : 1 ≤ linksIn numbers
   accepted-some = within-true 1 mostLinks (linksIn numbers) (a .count) .0
 
   pub accepted-few : linksIn numbers ≤ mostLinks
   accepted-few = within-true 1 mostLinks (linksIn numbers) (a .count) .1
-
-  pub accepted-whole : 4 * linksIn numbers ≡ length numbers
-  accepted-whole = pass-whole numbers (a .pass)
 
   pub accepted-link : (l : ℕ) → l < linksIn numbers
       → linkPasses (fromIn numbers l) (toIn numbers l) (horizonIn numbers l) (bufferIn numbers l) ≡ true

@@ -1,6 +1,6 @@
 -- The store of a network just set up, number by number: the number of links, the links' numbers as the list has them, and
 -- 0 everywhere else. Nothing of it hangs on what the store held.
-use Prim.Native.Nat.{ℕ, _+_, _-_, _≤_, _<_}
+use Prim.Native.Nat.{ℕ, _≤_, _<_}
 use mathlib.Core.Path.{_≡_, sym, _∙_, ap}
 use mathlib.Core.List.{List}
 use native.Mathlib.Omega.{arith}
@@ -12,9 +12,8 @@ use Rattle.store.specs.Layout.{linksOf, channelsOf, clockOf, fromOf, toOf, hori
 use Rattle.store.proofs.Laws.Layout.{written, beside, as-long, stays-long}
 use Rattle.setup_list.specs.List.{linksIn, fromIn, toIn, horizonIn, bufferIn}
 use Rattle.setup_fresh.specs.Fresh.{zeroed, linksWritten, freshStore}
-use Rattle.setup_fresh.proofs.Laws.Written.{zeroed-length, zeroed-below, zeroed-beyond, links-length, links-beside}
-use Rattle.setup_fresh.proofs.Laws.Written.{links-from, links-to, links-horizon, links-buffer, zeroed-forgets, links-front}
-use Rattle.setup_fresh.proofs.Laws.Written.{Numbers}
+use Rattle.setup_fresh.proofs.Laws.Written.{zeroed-length, zeroed-below, links-length, links-beside, links-from, links-to}
+use Rattle.setup_fresh.proofs.Laws.Written.{links-horizon, links-buffer, zeroed-forgets, links-front, Numbers}
 
 module _ (w : Store) (numbers : List ℕ) where
   -- the cleared store with the number of links, into which the links are written
@@ -73,14 +72,6 @@ module _ (w : Store) (numbers : List ℕ) where
 
   pub fresh-rows : (l : ℕ) → l < mostLinks → rowsOf (freshStore w numbers) l ≡ 0
   fresh-rows l h = fresh-zero (rowsAt l) (omega arith) (λ e. omega arith) (λ m a e. omega arith)
-
-  -- what lies beyond the store's length is as it was
-  pub fresh-beyond : linksIn numbers ≤ mostLinks → (at : ℕ) → storeLength ≤ at → numberAt (freshStore w numbers) at ≡ numberAt w at
-  unfolding freshStore
-  fresh-beyond few at h =
-      let e : storeLength + (at - storeLength) ≡ at = omega arith in
-      links-beside headed numbers (linksIn numbers) at (λ l a k. omega arith)
-      ∙ (beside (zeroed w) linksAt (linksIn numbers) at (λ k. omega arith) ∙ (rw e at (zeroed-beyond w (at - storeLength))))
 
 -- "set-up does not read what the store held": after it two stores are the same, as far as the store goes
 network-front : (z : Store) (numbers : List ℕ) (n size : ℕ) → linkAt n ≤ size

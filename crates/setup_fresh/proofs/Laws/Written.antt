@@ -1,11 +1,11 @@
 -- What set-up writes: the store cleared, and the links' numbers in it, number by number.
-use Prim.Native.Nat.{ℕ, zero, suc, _+_, _≤_, _<_}
+use Prim.Native.Nat.{ℕ, zero, suc, _≤_, _<_}
 use mathlib.Core.Path.{_≡_, refl, sym, _∙_}
 use mathlib.Core.List.{List, _++_}
 use native.Mathlib.Omega.{arith}
 use lib.ListN.{length, replicate, take, drop, length-set, length-append, length-replicate, length-drop, getD-replicate}
 use lib.ListN.{List·getD-append}
-use lib.Seq.{getD-append-add, getD-drop, take-at, take-set-lt}
+use lib.Seq.{take-at, take-set-lt}
 use Rattle.kinds.specs.Ranges.{mostLinks}
 use Rattle.store.specs.Layout.{Store, Long, storeLength, numberAt, linkAt, fromAt, toAt, horizonAt, bufferAt, fromOf, toOf}
 use Rattle.store.specs.Layout.{horizonOf, bufferOf, withFrom, withTo, withHorizon}
@@ -28,11 +28,6 @@ module _ (n : ℕ) (w : Store) where
       let l : at < length {A = ℕ} (replicate n 0) = rw (length-replicate {A = ℕ} n 0) h in
       List·getD-append (replicate n 0) (drop n w) 0 at l ∙ getD-replicate n at 0 0 h
 
-  to-beyond : (i : ℕ) → numberAt (zeroedTo n w) (n + i) ≡ numberAt w (n + i)
-  to-beyond i =
-      let e = getD-append-add (replicate n 0) (drop n w) i 0 in
-      (rw (length-replicate {A = ℕ} n 0) at e) ∙ getD-drop n w i 0
-
   to-front : take n (zeroedTo n w) ≡ replicate n 0
   to-front = take-at (replicate n 0) (drop n w) n (length-replicate n 0)
 
@@ -44,10 +39,6 @@ module _ (w : Store) where
   pub zeroed-below : (at : ℕ) → at < storeLength → numberAt (zeroed w) at ≡ 0
   unfolding zeroed
   zeroed-below at h = to-below storeLength w at h
-
-  pub zeroed-beyond : (i : ℕ) → numberAt (zeroed w) (storeLength + i) ≡ numberAt w (storeLength + i)
-  unfolding zeroed
-  zeroed-beyond i = to-beyond storeLength w i
 
 -- nothing in it hangs on what the store held
 pub zeroed-forgets : (w v : Store) → take storeLength (zeroed w) ≡ take storeLength (zeroed v)

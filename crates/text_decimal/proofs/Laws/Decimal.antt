@@ -9,9 +9,9 @@ use native.Mathlib.Omega.{arith}
 use borrow.Author.Tests.{lt-ltb, le-ltb}
 use lib.ListN.{length}
 use Rattle.text_decimal.specs.Decimal.{Text, isDigit, allDigits, valueFrom, valueOf, tooLarge, isNumber, spelled, decimal}
-use Rattle.text_decimal.specs.Word.{space, firstWord}
+use Rattle.text_decimal.specs.Word.{firstWord}
 use Rattle.text_decimal.proofs.Laws.Digits.{bounds-digit, digit-bounds, value-least, number-digits, number-fits}
-use Rattle.text_decimal.proofs.Laws.Digits.{digits-number, digits-more, word-of-digits, word-before-space}
+use Rattle.text_decimal.proofs.Laws.Digits.{digits-number, digits-more, word-of-digits}
 
 -- one digit, and more than one
 pub spelled-one : (most n : ℕ) (after : Text) → n < 10 → spelled (suc most) n after ≡ (48 + n) ∷ after
@@ -96,9 +96,6 @@ module _ (n : ℕ) where
 
   pub decimal-word : firstWord (decimal n) ≡ decimal n
   decimal-word = word-of-digits (decimal n) decimal-digits
-
-  pub decimal-before-space : (rest : Text) → firstWord (decimal n ++ (space ∷ rest)) ≡ decimal n
-  decimal-before-space rest = word-before-space (decimal n) rest decimal-digits
 
   module _ (fits : n < tooLarge) where
     pub value-decimal : valueOf (decimal n) ≡ n

@@ -2,7 +2,7 @@
 use Prim.Native.Nat.{ℕ, _+_, _-_, _*_, _^_, _≤_, _<_}
 use mathlib.Core.Path.{_≡_, refl}
 use mathlib.Core.Bool.{true, false, and-eq-true-iff}
-use mathlib.Core.List.{[], _∷_, _++_}
+use mathlib.Core.List.{[], _∷_}
 use native.Mathlib.Nat.{pow-succ', mul-le-mul-right}
 use native.Mathlib.Omega.{arith}
 use borrow.Author.Tests.{leb-true, le-leb, lt-leb, lt-ltb, ltb-true, ne-eqb}
@@ -61,9 +61,3 @@ unfolding firstWord allDigits
 word-of-digits [] e = refl
 word-of-digits (d ∷ rest) e =
     let p = and-eq-true-iff (isDigit d) _ .0 e in rw (no-space d (p .0), firstWord, word-of-digits rest (p .1))
-
-pub word-before-space : (ds rest : Text) → allDigits ds ≡ true → firstWord (ds ++ (space ∷ rest)) ≡ ds
-unfolding firstWord allDigits
-word-before-space [] more e = refl
-word-before-space (d ∷ rest) more e =
-    let p = and-eq-true-iff (isDigit d) _ .0 e in rw (no-space d (p .0), firstWord, word-before-space rest more (p .1))

@@ -1,14 +1,13 @@
 -- A text put into a list, and a part of one: laws about plain lists.
 use Prim.Native.Nat.{ℕ, suc, _+_, _-_, _≤_, _<_}
-use mathlib.Core.Path.{_≡_, sym, _∙_}
+use mathlib.Core.Path.{_≡_, _∙_}
 use mathlib.Core.List.{List, [], _∷_, _++_, append-assoc}
-use native.Mathlib.Decide.{decLe}
 use native.Mathlib.Nat.{add-zero, add-assoc}
 use native.Mathlib.Numerals.{add-one}
 use native.Mathlib.Omega.{arith}
 use lib.ListN.{length, take, drop, set, length-append, length-take, length-drop, take-append-drop}
-use lib.Seq.{length-take-le, take-suc, take-append-seam, take-append-le, drop-append-le, set-split}
-use lib.Seq.{set-at, take-at, drop-at, drop-drop, take-add, take-suc-set, drop-set-lt}
+use lib.Seq.{length-take-le, take-suc, take-append-seam, set-split, set-at, take-at, drop-at, drop-drop, take-add, take-suc-set}
+use lib.Seq.{drop-set-lt}
 use Rattle.text_decimal.specs.Put.{putAt, partOf}
 
 module _ (all : List ℕ) (at : ℕ) where
@@ -77,21 +76,3 @@ part-more all a b c h k =
     let e : c - a ≡ (b - a) + (c - b) = omega arith in
     let f : a + (b - a) ≡ b = omega arith in
     rw (e, take-add (b - a) (c - b) (drop a all), drop-drop, f)
-
--- a part of the first of two lists
-part-first : (a b : List ℕ) (from end : ℕ) → end ≤ length a → partOf (a ++ b) from end ≡ partOf a from end
-unfolding partOf
-part-first a b from end h = go (decLe from end)
-  where
-    go : Dec (from ≤ end) → take (end - from) (drop from (a ++ b)) ≡ take (end - from) (drop from a)
-    go (yes k) =
-        rw (drop-append-le from a b (omega arith)) (take-append-le (end - from) (drop from a) b (simp length-drop (omega arith)))
-    go (no k) = let e : end - from ≡ 0 = omega arith in rw e
-
-pub part-kept : (all : List ℕ) (at : ℕ) (part : List ℕ) (from end : ℕ) → at ≤ length all → end ≤ at
-    → partOf (putAt all at part) from end ≡ partOf all from end
-unfolding putAt
-part-kept all at part from end h k =
-    let l : end ≤ length (take at all) = simp (length-take-le at all h) k in
-    part-first (take at all) (part ++ drop (at + length part) all) from end l
-    ∙ (sym (part-first (take at all) (drop at all) from end l) ∙ rw (take-append-drop at all))
