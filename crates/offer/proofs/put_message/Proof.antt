@@ -6,6 +6,10 @@ use Rattle.offer.proofs.Steps.{message-put}
 use Rattle.offer.proofs.put_message.Statement.{statement}
 use Rattle.offer.proofs.put_message.Tie as tie
 
+-- the start, from the second write
+abbrev start : tie.After-put-end-arg → tie.Start
+start c = c .before .before .before .before .before .before .before .before
+
 end-requires : tie.Need-end-requires
 end-requires c κs = let s = c .before .before in readable _ _ (s .pre .0) (s .pre .1 .0)
 
@@ -24,13 +28,13 @@ put-time-requires c κs = let s = c .before .before .before .before in readable 
 
 put-end-requires : tie.Need-put-end-requires
 put-end-requires c κs =
-    let s = c .before .before .before .before .before .before .before .before in
+    let s = start c in
     let r = readable _ _ (s .pre .0) (s .pre .1 .0) in
     (omega (arith, r .0), r .1)
 
 put-messages-requires : tie.Need-put-messages-requires
 put-messages-requires c κs =
-    let s = c .before .before .before .before .before .before .before .before .before .before .before .before in
+    let s = start (c .before .before .before .before) in
     let r = readable _ _ (s .pre .0) (s .pre .1 .0) in
     (omega (arith, r .0), r .1)
 

@@ -6,6 +6,9 @@ use Rattle.offer.proofs.Steps.{room-uncounted, room-unkept, room-is}
 use Rattle.offer.proofs.takes_message.Statement.{statement}
 use Rattle.offer.proofs.takes_message.Tie as tie
 
+abbrev start : tie.Else2 → tie.Start
+start c = c .before .before .before .before .before .before
+
 messages-requires : tie.Need-messages-requires
 messages-requires c κs = let s = c .before in readable _ _ (s .pre .0) (s .pre .1 .0)
 
@@ -43,19 +46,19 @@ returns-2 c =
 
 held-requires : tie.Need-held-requires
 held-requires c κs =
-    let s = c .before .before .before .before .before .before in
+    let s = start c in
     let k = channel _ _ (s .pre .0) (s .pre .1 .0) in
     let r = readable _ _ (s .pre .0) (s .pre .1 .0) in
     (r .0, (r .1, (omega arith, k .course .flows 0 (k .hops-least))))
 
 add-result : tie.Need-add-result
 add-result c =
-    let s = c .before .before .before .before .before .before .before in
+    let s = start (c .before) in
     held-fits _ _ (s .pre .0) (s .pre .1 .0) _ (s .pre .1 .1) _ (c .held .ensures)
 
 reserved-requires : tie.Need-reserved-requires
 reserved-requires c κs =
-    let s = c .before .before .before .before .before .before .before in
+    let s = start (c .before) in
     (ranged _ _ (s .pre .0) (s .pre .1 .0), channel _ _ (s .pre .0) (s .pre .1 .0) .hops-least)
 
 returns-3 : tie.Need-returns-3

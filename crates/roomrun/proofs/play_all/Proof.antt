@@ -17,6 +17,13 @@ Inv-loop store₀ links₀ text₀ out₀ input₀ run₀ reads₀ store links t
 abbrev μ-loop : tie.MeasureT-loop
 μ-loop store₀ links₀ text₀ out₀ input₀ run₀ reads₀ store links text out input run reads = reads
 
+-- the turn's start, from where it ended and from where a chunk is played
+abbrev ended : tie.Then1 Inv-loop μ-loop → tie.At-loop Inv-loop μ-loop
+ended c = c .before .before .before .before .before .before .before
+
+abbrev chunk-read : tie.After-play-chunk-arg4 Inv-loop μ-loop → tie.After-read Inv-loop μ-loop
+chunk-read c = c .before .before .before .before .before .before .before .before .before
+
 large-buffer-requires : tie.Need-large-buffer-requires Inv-loop μ-loop
 large-buffer-requires c κs = search needs
 
@@ -43,7 +50,7 @@ slice-aggregate-play-chunk c = c .before .before .before .before .before .count 
 
 play-chunk-requires : tie.Need-play-chunk-requires Inv-loop μ-loop
 play-chunk-requires c κs =
-    let i = c .before .before .before .before .before .before .before .before .before .before .before .before .loop .inv in
+    let i = chunk-read c .before .before .before .loop .inv in
     (i .0, i .1 .1)
 
 sub-reads : tie.Need-sub-reads Inv-loop μ-loop
@@ -55,7 +62,7 @@ loop-less c = omega arith
 loop-again : tie.Need-loop-again Inv-loop μ-loop
 loop-again c =
     let p = c .before .before in
-    let r = p .before .before .before .before .before .before .before .before .before .before in
+    let r = chunk-read (p .before) in
     let i = r .before .before .before .loop .inv in
     (p .play-chunk .kept .1 .1 .0 ∙ i .0, (i .1 .0 ∙ sym (r .read .kept .1 .0), p .play-chunk .ensures))
 
@@ -67,11 +74,11 @@ returns c = c .before .loop .inv .1 .1
 
 same-length-2 : tie.Need-same-length-2 Inv-loop μ-loop
 same-length-2 c =
-    let a = c .before .before .before .before .before .before .before in
+    let a = ended c in
     a .loop .inv .0 ∙ sym (a .before .before .before .pre)
 
 returns-2 : tie.Need-returns-2 Inv-loop μ-loop
-returns-2 c = c .before .before .before .before .before .before .before .loop .inv .1 .1
+returns-2 c = ended c .loop .inv .1 .1
 
 pub play-all-spec : {M : Type 1} → statement M
 play-all-spec =

@@ -16,6 +16,10 @@ Inv-loop store₀ links₀ text₀ chunk out₀ after₀ store links text out af
 abbrev μ-loop : tie.MeasureT-loop
 μ-loop store₀ links₀ text₀ chunk out₀ after₀ store links text out after = length chunk - after .from
 
+-- the line that was played
+abbrev played : tie.After-play-slots Inv-loop μ-loop → tie.After-line Inv-loop μ-loop
+played c = c .before .before .before .before .before
+
 loop-holds : tie.Need-loop-holds Inv-loop μ-loop
 loop-holds c = c .before .before .pre
 
@@ -35,12 +39,12 @@ play-slots-requires c κs = c .before .before .before .before .line .ensures .1 
 
 loop-less : tie.Need-loop-less Inv-loop μ-loop
 loop-less c =
-    let e = c .before .before .before .before .before .line .ensures .1 .1 .1 .1 .1 in
+    let e = played c .line .ensures .1 .1 .1 .1 .1 in
     omega (arith, e .0, e .1, c .play-slots .ensures .1 .0 .1)
 
 loop-again : tie.Need-loop-again Inv-loop μ-loop
 loop-again c =
-    let l = c .before .before .before .before .before in
+    let l = played c in
     let s = c .play-slots .ensures in
     let i = l .before .before .before .before .before .before .before .before .before .before .loop .inv in
     (l .line .kept .1 .1 .0 ∙ i .0, (s .0, (omega (arith, s .1 .0 .0, l .line .ensures .1 .1 .1 .1 .0), s .1 .1)))

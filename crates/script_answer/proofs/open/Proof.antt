@@ -10,6 +10,13 @@ use Rattle.script_answer.proofs.Ends.{written-as}
 use Rattle.script_answer.proofs.open.Statement.{statement}
 use Rattle.script_answer.proofs.open.Tie as tie
 
+-- the start; and, where it was accepted, that this is known
+abbrev start : tie.After-open → tie.Start
+start o = o .before .before .before .before .before .before .before .before
+
+abbrev accepted : tie.After-reserved2 → tie.After-outcome
+accepted r = r .before .before .before .before .before .before .before .before
+
 shared-slice-read-open : tie.Need-shared-slice-read-open
 shared-slice-read-open c = search needs
 
@@ -42,19 +49,19 @@ enum-known-outcome c = search needs
 
 channel-requires : tie.Need-channel-requires
 channel-requires c κs =
-    let called = c .before .before .before .before .before .before .before .before .before .before in
-    let start = called .before .before .before .before .before .before .before .before in
+    let called = accepted c .before .before in
+    let s = start called in
     let call = called .«open» in
-    let hops = start .args .hops in
+    let hops = s .args .hops in
     let e : 4 + hops - 4 ≡ hops = omega arith in
     let few = opened-few
-    (start .args .store .now)
-    (start .args .numbers .now)
+    (s .args .store .now)
+    (s .args .numbers .now)
     hops
     _
-    (start .pre .0)
+    (s .pre .0)
     (rw e at (call .ensures .0))
-    (c .before .before .before .before .before .before .before .before .outcome .given .1) in
+    (accepted c .outcome .given .1) in
     (few, omega arith)
 
 enum-known-outcome-2 : tie.Need-enum-known-outcome-2
@@ -65,30 +72,31 @@ put-refused-requires c κs = search needs
 
 returns : tie.Need-returns
 returns c =
-    let called = c .before .before .before .before .before .before .before .before .before .before .before in
-    let start = called .before .before .before .before .before .before .before .before in
+    let o = accepted (c .before) in
+    let called = o .before .before in
+    let s = start called in
     let call = called .«open» in
-    let hops = start .args .hops in
+    let hops = s .args .hops in
     let e : 4 + hops - 4 ≡ hops = omega arith in
-    let asked = openAnswer (start .args .store .now) (requestIn (start .args .numbers .now) hops) in
-    let known = c .before .before .before .before .before .before .before .before .before .outcome .given .1 in
+    let asked = openAnswer (s .args .store .now) (requestIn (s .args .numbers .now) hops) in
+    let known = o .outcome .given .1 in
     let text = opened-accepted (call .result) asked hops (rw e at (call .ensures .0)) known in
     let put = c .channel .ensures in
-    let out = written-as (start .args .at) (start .args .out .now) text (put .0) (put .1) in
+    let out = written-as (s .args .at) (s .args .out .now) text (put .0) (put .1) in
     (out .0, (rw e at (call .ensures .1), out .1))
 
 returns-2 : tie.Need-returns-2
 returns-2 c =
     let called = c .before .before .before .before .before in
-    let start = called .before .before .before .before .before .before .before .before in
+    let s = start called in
     let call = called .«open» in
-    let hops = start .args .hops in
+    let hops = s .args .hops in
     let e : 4 + hops - 4 ≡ hops = omega arith in
-    let asked = openAnswer (start .args .store .now) (requestIn (start .args .numbers .now) hops) in
+    let asked = openAnswer (s .args .store .now) (requestIn (s .args .numbers .now) hops) in
     let known = c .before .before .before .outcome2 .given .1 in
     let text = opened-refused (call .result) asked hops (rw e at (call .ensures .0)) known in
     let put = c .put-refused .ensures in
-    let out = written-as (start .args .at) (start .args .out .now) text (put .0) (put .1) in
+    let out = written-as (s .args .at) (s .args .out .now) text (put .0) (put .1) in
     (out .0, (rw e at (call .ensures .1), out .1))
 
 pub open-spec : {M : Type 1} → statement M

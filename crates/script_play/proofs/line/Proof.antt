@@ -9,6 +9,16 @@ use Rattle.script_play.proofs.Lines.{plays-over, plays-running, plays-l
 use Rattle.script_play.proofs.line.Statement.{statement}
 use Rattle.script_play.proofs.line.Tie as tie
 
+-- the line was read; set-up was called, for the first line that is no link
+abbrev was-read : tie.After-answer-line-arg2 → tie.After-read
+was-read c = c .before .before .before .before .before
+
+abbrev was-set-up : tie.After-answer-line-arg4 → tie.After-set-up
+was-set-up c = c .before .before .before .before .before
+
+abbrev no-link : tie.After-set-up → tie.Else1
+no-link c = c .before .before .before .before .before
+
 read-requires : tie.Need-read-requires
 read-requires c κs = search needs
 
@@ -20,8 +30,7 @@ enum-told-2 c = search needs
 
 answer-line-requires : tie.Need-answer-line-requires
 answer-line-requires c κs =
-    let read = c .before .before .before .before .before .read in
-    (rw (read .ensures .0) (asks-few _), omega arith)
+    (rw (was-read c .read .ensures .0) (asks-few _), omega arith)
 
 enum-known-phase : tie.Need-enum-known-phase
 enum-known-phase c = search needs
@@ -64,17 +73,17 @@ enum-told-3 c = search needs
 
 answer-line-requires-2 : tie.Need-answer-line-requires-2
 answer-line-requires-2 c κs =
-    let call = c .before .before .before .before .before .set-up in
-    let known = c .before .before .before .before .before .before .before .before .before .before .before .before .before in
+    let call = was-set-up c in
+    let known = no-link call .before .before .before in
     let read = known .before .before in
     let args = read .before .before .before .args in
-    let place = started-place (args .store .now) (args .links .now) (known .phase .given .0 .0) (args .at) (call .ensures .0) in
+    let place = started-place (args .store .now) (args .links .now) (known .phase .given .0 .0) (args .at) (call .set-up .ensures .0) in
     (rw (read .read .ensures .0) (asks-few _), omega (arith, place))
 
 returns-2 : tie.Need-returns-2
 returns-2 c =
-    let call = c .before .before .before .before .before .before in
-    let other = call .before .before .before .before .before in
+    let call = was-set-up (c .before) in
+    let other = no-link call in
     let known = other .before .before .before in
     let read = known .before .before in
     let start = read .before .before .before in
@@ -114,7 +123,7 @@ returns-3 c =
 
 returns-4 : tie.Need-returns-4
 returns-4 c =
-    let read = c .before .before .before .before .before .before in
+    let read = was-read (c .before) in
     let start = read .before .before .before in
     plays-running
     (start .args .store .now)
@@ -134,7 +143,7 @@ returns-4 c =
 
 returns-5 : tie.Need-returns-5
 returns-5 c =
-    let other = c .before .before .before .before .before .before in
+    let other = no-link (c .before) in
     let known = other .before .before .before in
     let read = known .before .before in
     let start = read .before .before .before in

@@ -44,8 +44,12 @@ whole c =
 clear-requires : tie.Need-clear-requires
 clear-requires c κs = search needs
 
+-- the links were counted
+abbrev counted : tie.Else3 → tie.After-links-in
+counted c = c .before .before .before .before .before
+
 accepted : (c : tie.Else3)
-    → let l = c .before .before .before .before .before in Accepted (l .before .before .before .args .store .now) (numbers l)
+    → let l = counted c in Accepted (l .before .before .before .args .store .now) (numbers l)
 accepted c = record { count = fit (c .before .before .before); pass = pass (c .before); long = c .if3 .left }
 
 links-in-requires : tie.Need-links-in-requires
@@ -91,7 +95,7 @@ returns-4 c =
     _
     _
     _
-    (e .before .before .before .before .before .links-in .ensures)
+    (counted e .links-in .ensures)
     _
     _
     _

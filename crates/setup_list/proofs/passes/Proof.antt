@@ -56,15 +56,19 @@ enum-told c = search needs
 enum-told-2 : tie.Need-enum-told-2
 enum-told-2 c = search needs
 
+-- the link's numbers are all there
+abbrev there : tie.After-new → tie.Else1
+there n = n .before .before .before .before .before
+
 returns-2 : tie.Need-returns-2
 returns-2 c =
     let n = c .before .before in
-    refused-at _ _ _ (n .before .before .before .before .before .if1 .left) (n .new .ensures) _ (c .enum-told2 .given .1)
+    refused-at _ _ _ (there n .if1 .left) (n .new .ensures) _ (c .enum-told2 .given .1)
 
 returns-3 : tie.Need-returns-3
 returns-3 c =
     let n = c .before .before in
-    good-at _ _ _ (n .before .before .before .before .before .if1 .left) (n .new .ensures) _ (c .enum-told .given .1)
+    good-at _ _ _ (there n .if1 .left) (n .new .ensures) _ (c .enum-told .given .1)
 
 pub passes-spec : {M : Type 1} → statement M
 passes-spec =

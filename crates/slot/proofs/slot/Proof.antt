@@ -9,6 +9,9 @@ use Rattle.slot.proofs.slot.Tie as tie
 abbrev start : tie.After-run → tie.Start
 start c = c .before .before .before .before .before .before .before
 
+abbrev ran : tie.After-out2 → tie.After-run
+ran c = c .before .before .before .before .before
+
 run-requires : tie.Need-run-requires
 run-requires c κs = search needs
 
@@ -20,7 +23,7 @@ mul-out c =
 
 slice-aggregate-result : tie.Need-slice-aggregate-result
 slice-aggregate-result c =
-    let r = c .before .before .before .before .before in
+    let r = ran c in
     let e = r .run .ensures in
     front-length _ (start r .args .out .now) _ _ (e .0) (e .1 .1 .0)
 
@@ -29,7 +32,7 @@ same-length c = search needs
 
 returns : tie.Need-returns
 returns c =
-    let r = c .before .before .before .before .before in
+    let r = ran c in
     let e = r .run .ensures in
     (front-part _ (start r .args .out .now) _ _ (e .0) (e .1 .1 .0), (e .1 .0, (e .1 .1 .1 .0, e .1 .1 .1 .1)))
 

@@ -23,8 +23,15 @@ abbrev μ-loop : tie.MeasureT-loop
 μ-loop store l now rows _ _ _ _ _ _ _ due earliest due-channel soon least soon-channel k =
     rows - k
 
+-- the start; the turn in which a row was read; the row whose packet's logical time was read
 abbrev start : tie.At-loop Inv-loop μ-loop → tie.Start Inv-loop μ-loop
 start a = a .before .before .before .before
+
+abbrev turn : tie.After-row-place Inv-loop μ-loop → tie.In-loop Inv-loop μ-loop
+turn p = p .before .before
+
+abbrev row-read : tie.After-logical Inv-loop μ-loop → tie.After-row-place Inv-loop μ-loop
+row-read g = g .before .before .before .before
 
 -- a row further on, there are fewer left
 fewer : {rows k : ℕ} → k < rows → rows - (k + 1) < rows - k
@@ -46,10 +53,10 @@ ready t =
 
 -- the row in hand, and what it holds
 row : (p : tie.After-row-place Inv-loop μ-loop)
-    → Row (start (p .before .before .before) .args .store .now) (start (p .before .before .before) .args .l)
-    (p .before .before .before .loop .k) (p .before .row-channel .result) (p .row-place .result)
+    → Row (start (turn p .before) .args .store .now) (start (turn p .before) .args .l)
+    (turn p .before .loop .k) (p .before .row-channel .result) (p .row-place .result)
 row p =
-    let t = p .before .before in
+    let t = turn p in
     let (e, h) = start (t .before) .pre in
     record {
       sound = e;
@@ -60,24 +67,23 @@ row p =
     }
 
 holds : (u : tie.Then1 Inv-loop μ-loop)
-    → isHeld (start (u .before .before .before .before .before .before) .args .store .now)
-    (u .before .before .before .before .row-channel .result) (u .before .before .before .row-place .result) ≡ true
+    → let p = u .before .before .before in
+    isHeld (start (turn p .before) .args .store .now) (p .before .row-channel .result) (p .row-place .result) ≡ true
 holds u =
     let e = u .before in
     place-holds (row (e .before .before)) (e .before .sent .ensures) (e .entered .ensures) (u .if1 .taken)
 
 packet : (g : tie.After-logical Inv-loop μ-loop)
-    → Held (start (g .before .before .before .before .before .before .before) .args .store .now)
-    (start (g .before .before .before .before .before .before .before) .args .l)
-    (g .before .before .before .before .before .before .before .loop .k)
-    (g .before .before .before .before .before .row-channel .result) (g .before .before .before .before .row-place .result)
-    (g .before .before .before .before .before .before .before .before .before .clock .result) (g .logical .result)
+    → let p = row-read g in
+    let a = turn p .before in
+    Held (start a .args .store .now) (start a .args .l) (a .loop .k) (p .before .row-channel .result) (p .row-place .result)
+    (a .before .before .clock .result) (g .logical .result)
 packet g =
-    let p = g .before .before .before .before in
+    let p = row-read g in
     record {
       row = row p;
       held = holds (g .before);
-      now-is = p .before .before .before .before .before .clock .ensures;
+      now-is = turn p .before .before .before .clock .ensures;
       time-is = g .logical .ensures;
     }
 
@@ -118,25 +124,25 @@ goes-before-requires : tie.Need-goes-before-requires Inv-loop μ-loop
 goes-before-requires c κs = search needs
 
 loop-less : tie.Need-loop-less Inv-loop μ-loop
-loop-less c = fewer (inside (c .before .before .before .before .before .before .before .before .before))
+loop-less c = fewer (inside (turn (row-read (c .before .before .before))))
 
 loop-again : tie.Need-loop-again Inv-loop μ-loop
 loop-again c =
     let g = c .before .before .before in
-    let a = g .before .before .before .before .before .before .before in
+    let a = turn (row-read g) .before in
     choosing-soon (a .loop .inv) (packet g) (c .before .before .if2 .taken) (c .before .goes-before .ensures) (c .if3 .taken)
 
 loop-less-2 : tie.Need-loop-less-2 Inv-loop μ-loop
-loop-less-2 c = fewer (inside (c .before .before .before .before .before .before .before .before .before))
+loop-less-2 c = fewer (inside (turn (row-read (c .before .before .before))))
 
 loop-again-2 : tie.Need-loop-again-2 Inv-loop μ-loop
 loop-again-2 c =
     let g = c .before .before .before in
-    let a = g .before .before .before .before .before .before .before in
+    let a = turn (row-read g) .before in
     choosing-later (a .loop .inv) (packet g) (c .before .before .if2 .taken) (c .before .goes-before .ensures) (c .if3 .left)
 
 delay-requires : tie.Need-delay-requires Inv-loop μ-loop
-delay-requires c κs = row-ready (row (c .before .before .before .before .before))
+delay-requires c κs = row-ready (row (row-read (c .before)))
 
 add-deadline : tie.Need-add-deadline Inv-loop μ-loop
 add-deadline c = omega (arith, c .before .if2 .left, held-small (packet (c .before .before)) (c .delay .ensures))
@@ -145,35 +151,36 @@ goes-before-requires-2 : tie.Need-goes-before-requires-2 Inv-loop μ-loop
 goes-before-requires-2 c κs = search needs
 
 loop-less-3 : tie.Need-loop-less-3 Inv-loop μ-loop
-loop-less-3 c = fewer (inside (c .before .before .before .before .before .before .before .before .before .before))
+loop-less-3 c = fewer (inside (turn (row-read (c .before .before .before .before))))
 
 loop-again-3 : tie.Need-loop-again-3 Inv-loop μ-loop
 loop-again-3 c =
     let d = c .before .before in
     let g = d .before .before in
-    let a = g .before .before .before .before .before .before .before in
+    let a = turn (row-read g) .before in
     choosing-due (a .loop .inv) (packet g) (d .before .if2 .left) (d .delay .ensures)
     (c .before .goes-before2 .ensures) (c .if4 .taken)
 
 loop-less-4 : tie.Need-loop-less-4 Inv-loop μ-loop
-loop-less-4 c = fewer (inside (c .before .before .before .before .before .before .before .before .before .before))
+loop-less-4 c = fewer (inside (turn (row-read (c .before .before .before .before))))
 
 loop-again-4 : tie.Need-loop-again-4 Inv-loop μ-loop
 loop-again-4 c =
     let d = c .before .before in
     let g = d .before .before in
-    let a = g .before .before .before .before .before .before .before in
+    let a = turn (row-read g) .before in
     choosing-after (a .loop .inv) (packet g) (d .before .if2 .left) (d .delay .ensures)
     (c .before .goes-before2 .ensures) (c .if4 .left)
 
 loop-less-5 : tie.Need-loop-less-5 Inv-loop μ-loop
-loop-less-5 c = fewer (inside (c .before .before .before .before .before))
+loop-less-5 c = fewer (inside (turn (c .before .before .before)))
 
 loop-again-5 : tie.Need-loop-again-5 Inv-loop μ-loop
 loop-again-5 c =
     let e = c .before in
-    let r = row (e .before .before) in
-    choosing-pass (e .before .before .before .before .before .loop .inv) (r .below)
+    let p = e .before .before in
+    let r = row p in
+    choosing-pass (turn p .before .loop .inv) (r .below)
     (row-empty r (e .before .sent .ensures) (e .entered .ensures) (c .if1 .left))
 
 chosen-requires : tie.Need-chosen-requires Inv-loop μ-loop

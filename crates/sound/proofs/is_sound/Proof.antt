@@ -6,17 +6,20 @@ use borrow.Author.Needs.{needs}
 use Rattle.sound.proofs.is_sound.Statement.{statement}
 use Rattle.sound.proofs.is_sound.Tie as tie
 
+abbrev start : tie.Else2 → tie.Start
+start c = c .before .before .before .before
+
 -- what has passed
-counted : (c : tie.Else2) → Counted (c .before .before .before .before .args .store .now)
+counted : (c : tie.Else2) → Counted (start c .args .store .now)
 counted c = (c .before .before .if1 .left, held (c .before .counts-fit .ensures) (c .if2 .left))
 
-linked : (c : tie.Else3) → Linked (c .before .before .before .before .before .before .args .store .now)
+linked : (c : tie.Else3) → Linked (start (c .before .before) .args .store .now)
 linked c = (counted (c .before .before), held (c .before .links-fit .ensures) (c .if3 .left))
 
-fitting : (c : tie.Else4) → Fit (c .before .before .before .before .before .before .before .before .args .store .now)
+fitting : (c : tie.Else4) → Fit (start (c .before .before .before .before) .args .store .now)
 fitting c = fit _ (linked (c .before .before)) (held (c .before .channels-sound .ensures) (c .if4 .left))
 
-filled : (c : tie.Else5) → Filled (c .before .before .before .before .before .before .before .before .before .before .args .store .now)
+filled : (c : tie.Else5) → let d = c .before .before in Filled (start (d .before .before .before .before) .args .store .now)
 filled c = (fitting (c .before .before), held (c .before .rows-sound .ensures) (c .if5 .left))
 
 returns : tie.Need-returns

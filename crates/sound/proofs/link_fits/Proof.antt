@@ -5,15 +5,17 @@ use borrow.Author.Needs.{needs}
 use Rattle.sound.proofs.link_fits.Statement.{statement}
 use Rattle.sound.proofs.link_fits.Tie as tie
 
+abbrev start : tie.After-new → tie.Start
+start n = n .before .before .before .before .before .before
+
 -- what the constructor answered
 answer : (n : tie.After-new)
-    → n .new .result ≡ checkedLink (n .before .before .before .before .before .before .args .store .now)
-    (n .before .before .before .before .before .before .args .l)
+    → n .new .result ≡ checkedLink (start n .args .store .now) (start n .args .l)
 answer n =
     let b = n .before in
     let h = b .before in
     let t = h .before in
-    let a = t .before .before .before .args in
+    let a = start n .args in
     n .new .ensures
     ∙ link-read (a .store .now) (a .l) (t .before .from .ensures) (t .to .ensures) (h .horizon .ensures) (b .buffer .ensures)
 
@@ -41,7 +43,7 @@ enum-told-2 c = search needs
 returns : tie.Need-returns
 returns c =
     let n = c .before .before in
-    no-link (n .before .before .before .before .before .before .args .store .now) _ (answer n) (c .enum-told2 .given .1)
+    no-link (start n .args .store .now) _ (answer n) (c .enum-told2 .given .1)
 
 rows-requires : tie.Need-rows-requires
 rows-requires c κs = search needs
@@ -53,8 +55,7 @@ returns-2 : tie.Need-returns-2
 returns-2 c =
     let g = c .before .before in
     let n = g .before .before in
-    let w = n .before .before .before .before .before .before .args .store .now in
-    its-rows w _ (answer n) (g .enum-told .given .1) (c .before .rows .ensures) (c .rows-fit .ensures)
+    its-rows (start n .args .store .now) _ (answer n) (g .enum-told .given .1) (c .before .rows .ensures) (c .rows-fit .ensures)
 
 pub link-fits-spec : {M : Type 1} → statement M
 link-fits-spec =

@@ -5,6 +5,13 @@ use borrow.Author.Needs.{needs}
 use Rattle.sound_channel.proofs.channel_fits.Statement.{statement}
 use Rattle.sound_channel.proofs.channel_fits.Tie as tie
 
+-- the start; the numbers' constructor has answered, and the hops have been read behind it
+abbrev start : tie.After-new → tie.Start
+start n = n .before .before .before .before .before .before
+
+abbrev numbers : tie.After-hops → tie.After-new
+numbers h = h .before .before .before
+
 c-requires : tie.Need-c-requires
 c-requires c κs = search needs
 
@@ -28,8 +35,8 @@ enum-told-2 c = search needs
 
 returns : tie.Need-returns
 returns c =
-    let s = c .before .before .before .before .before .before .before .before in
     let n = c .before .before in
+    let s = start n in
     let b = n .before in
     numbers-fail (s .args .store .now) (s .args .x) _ _ _ _ (b .before .before .before .c .ensures)
     (b .before .before .p .ensures) (b .before .d .ensures) (b .b .ensures) (sym (n .new .ensures) ∙ c .enum-told2 .given .1)
@@ -48,11 +55,11 @@ enum-told-4 c = search needs
 
 returns-2 : tie.Need-returns-2
 returns-2 c =
-    let s = c .before .before .before .before .before .before .before .before .before .before .before .before in
     let m = c .before .before in
     let h = m .before in
     let t = h .before in
-    let n = t .before .before in
+    let n = numbers h in
+    let s = start n in
     let b = n .before in
     let one = numbers-pass (s .args .store .now) (s .args .x) _ _ _ _ (b .before .before .before .c .ensures)
     (b .before .before .p .ensures) (b .before .d .ensures) (b .b .ensures) (sym (n .new .ensures) ∙ t .enum-told .given .1) in
@@ -60,19 +67,18 @@ returns-2 c =
 
 route-passes-requires : tie.Need-route-passes-requires
 route-passes-requires c κs =
-    let s = c .before .before .before .before .before .before .before .before .before .before .before .before in
     let m = c .before .before in
-    let h = m .before in
+    let s = start (numbers (m .before)) in
     (s .pre .0, (s .pre .1 .0, (s .pre .1 .1, hops-most _ (sym (m .new2 .ensures) ∙ c .enum-told3 .given .1))))
 
 returns-3 : tie.Need-returns-3
 returns-3 c =
-    let s = c .before .before .before .before .before .before .before .before .before .before .before .before .before in
     let k = c .before in
     let m = k .before .before in
     let h = m .before in
     let t = h .before in
-    let n = t .before .before in
+    let n = numbers h in
+    let s = start n in
     let b = n .before in
     let one = numbers-pass (s .args .store .now) (s .args .x) _ _ _ _ (b .before .before .before .c .ensures)
     (b .before .before .p .ensures) (b .before .d .ensures) (b .b .ensures) (sym (n .new .ensures) ∙ t .enum-told .given .1) in

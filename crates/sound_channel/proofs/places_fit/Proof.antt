@@ -12,6 +12,9 @@ Inv-loop store x hops p entered₀ j₀ entered j = Placing store x hops p enter
 abbrev μ-loop : tie.MeasureT-loop
 μ-loop store x hops p entered₀ j₀ entered j = hops - j
 
+abbrev start : tie.In-loop Inv-loop μ-loop → tie.Start Inv-loop μ-loop
+start t = t .before .before .before .before .before .before
+
 hops-requires : tie.Need-hops-requires Inv-loop μ-loop
 hops-requires c κs = search needs
 
@@ -26,7 +29,7 @@ loop-holds c = placing-none _ _ _ _ _ (c .before .before .hops .ensures) (c .bef
 
 delay-requires : tie.Need-delay-requires Inv-loop μ-loop
 delay-requires c κs =
-    let s = c .before .before .before .before .before .before in
+    let s = start c in
     (s .pre .0, (s .pre .1 .0, omega (arith, c .before .loop .inv .hops-are)))
 
 returns : tie.Need-returns Inv-loop μ-loop
@@ -44,7 +47,7 @@ returns-2 c =
 
 sent-requires : tie.Need-sent-requires Inv-loop μ-loop
 sent-requires c κs =
-    let s = c .before .before .before .before .before .before .before .before .before in
+    let s = start (c .before .before .before) in
     (s .pre .0, (s .pre .1 .0, omega (arith, c .before .before .before .before .loop .inv .hops-are)))
 
 returns-3 : tie.Need-returns-3 Inv-loop μ-loop

@@ -14,6 +14,9 @@ Inv-loop store x last most sent n₀ at₀ left₀ n at left = Ordering store x 
 abbrev μ-loop : tie.MeasureT-loop
 μ-loop store x last most sent n₀ at₀ left₀ n at left = left
 
+abbrev start : tie.At-loop Inv-loop μ-loop → tie.Start Inv-loop μ-loop
+start a = a .before .before .before .before .before
+
 hops-requires : tie.Need-hops-requires Inv-loop μ-loop
 hops-requires c κs = search needs
 
@@ -38,7 +41,7 @@ loop-holds c =
 
 end-in-requires : tie.Need-end-in-requires Inv-loop μ-loop
 end-in-requires c κs =
-    let s = c .before .before .before .before .before .before in
+    let s = start (c .before) in
     (s .pre .0, (s .pre .1 .0, ring-inside _ _ (c .before .loop .inv .place)))
 
 returns : tie.Need-returns Inv-loop μ-loop
@@ -59,7 +62,7 @@ place-before-requires c κs = ring-inside _ _ (c .before .before .before .before
 follows-requires : tie.Need-follows-requires Inv-loop μ-loop
 follows-requires c κs =
     let l = c .before .before .before .before .before in
-    let s = l .before .before .before .before .before in
+    let s = start l in
     let (b, h) = c .place-before .ensures in
     (s .pre .0, (s .pre .1 .0, (h, (ring-after _ _ (ring-inside _ _ (l .loop .inv .place)) b, l .loop .inv .sent-is))))
 
@@ -92,7 +95,7 @@ loop-again c =
 
 end-in-requires-2 : tie.Need-end-in-requires-2 Inv-loop μ-loop
 end-in-requires-2 c κs =
-    let s = c .before .before .before .before .before .before in
+    let s = start (c .before) in
     (s .pre .0, (s .pre .1 .0, ring-inside _ _ (c .before .loop .inv .place)))
 
 returns-4 : tie.Need-returns-4 Inv-loop μ-loop

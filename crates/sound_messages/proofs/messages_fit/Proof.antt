@@ -5,6 +5,13 @@ use borrow.Author.Needs.{needs}
 use Rattle.sound_messages.proofs.messages_fit.Statement.{statement}
 use Rattle.sound_messages.proofs.messages_fit.Tie as tie
 
+-- the number of messages is in range; and still when C has been read
+abbrev start : tie.Else1 → tie.Start
+start i = i .before .before .before .before
+
+abbrev counted : tie.After-c → tie.Else1
+counted k = k .before .before .before .before .before
+
 messages-requires : tie.Need-messages-requires
 messages-requires c κs = search needs
 
@@ -25,9 +32,9 @@ is-number-requires-2 c κs = search needs
 
 returns-2 : tie.Need-returns-2
 returns-2 c =
-    let s = c .before .before .before .before .before .before .before in
     let t = c .before .before in
     let i = t .before in
+    let s = start i in
     let n = i .before in
     too-late (s .args .store .now) (s .args .x) _ (n .before .messages .ensures) _ (t .time .ensures)
     (held (n .is-number .ensures) (i .if1 .left)) (refuted (c .before .is-number2 .ensures) (c .if2 .taken))
@@ -40,19 +47,19 @@ c-requires c κs = search needs
 
 mul-if3 : tie.Need-mul-if3
 mul-if3 c =
-    let s = c .before .before .before .before .before .before .before .before .before in
-    let i = c .before .before .before .before .before in
+    let i = counted c in
+    let s = start i in
     let n = i .before in
     total-fits (s .args .store .now) (s .args .x) _ (n .before .messages .ensures) _ (c .c .ensures) (s .pre .1 .1 .0)
     (few (s .args .store .now) (s .args .x) _ (n .before .messages .ensures) (held (n .is-number .ensures) (i .if1 .left)))
 
 returns-3 : tie.Need-returns-3
 returns-3 c =
-    let s = c .before .before .before .before .before .before .before .before .before .before in
     let k = c .before in
     let j = k .before .before in
     let t = j .before .before in
-    let i = t .before in
+    let i = counted k in
+    let s = start i in
     let n = i .before in
     too-much (s .args .store .now) (s .args .x) _ (n .before .messages .ensures) _ (t .time .ensures)
     (held (n .is-number .ensures) (i .if1 .left)) _ _ (k .before .end .ensures) (k .c .ensures)
@@ -60,8 +67,8 @@ returns-3 c =
 
 in-order-requires : tie.Need-in-order-requires
 in-order-requires c κs =
-    let s = c .before .before .before .before .before .before .before .before .before .before in
-    let i = c .before .before .before .before .before .before in
+    let i = counted (c .before) in
+    let s = start i in
     let n = i .before in (
       s .pre .0,
       (
@@ -76,12 +83,12 @@ in-order-requires c κs =
 
 returns-4 : tie.Need-returns-4
 returns-4 c =
-    let s = c .before .before .before .before .before .before .before .before .before .before .before in
     let q = c .before in
     let k = q .before in
     let j = k .before .before in
     let t = j .before .before in
-    let i = t .before in
+    let i = counted k in
+    let s = start i in
     let n = i .before in
     ordered (s .args .store .now) (s .args .x) _ (n .before .messages .ensures) _ (t .time .ensures)
     (held (n .is-number .ensures) (i .if1 .left)) _ _ (k .before .end .ensures) (k .c .ensures)

@@ -20,25 +20,28 @@ Inv-loop store l rows above₀ higher₀ sum₀ k₀ above higher sum k = Walk s
 abbrev μ-loop : tie.MeasureT-loop
 μ-loop store l rows above₀ higher₀ sum₀ k₀ above higher sum k = rows - k
 
+abbrev start : tie.In-loop Inv-loop μ-loop → tie.Start Inv-loop μ-loop
+start t = t .before .before .before .before
+
 -- the link is there, and has few rows
 link : (s : tie.Start Inv-loop μ-loop) → (s .args .l < mostLinks) × (rowsOf (s .args .store .now) (s .args .l) ≤ mostRows)
 link s = (link-most _ (s .pre .0) _ _ refl (s .pre .1), rows-most _ (s .pre .0) _ _ refl (s .pre .1) _ refl)
 
 -- the row in hand, and that it stands
 row : (p : tie.After-row-place Inv-loop μ-loop)
-    → Row (p .before .before .before .before .before .before .args .store .now) (p .before .before .before .before .before .before .args .l)
+    → Row (start (p .before .before) .args .store .now) (start (p .before .before) .args .l)
     (p .before .before .before .loop .k) (p .before .row-channel .result) (p .row-place .result)
 row p = record {
-  fit = p .before .before .before .before .before .before .pre .0;
+  fit = start (p .before .before) .pre .0;
   below = omega arith;
   its-channel = p .before .row-channel .ensures;
   its-place = p .row-place .ensures;
 }
 
 stood : (u : tie.Else1 Inv-loop μ-loop)
-    → stands (u .before .before .before .before .before .before .before .before .args .store .now)
-    (u .before .before .before .before .before .before .before .before .args .l)
-    (u .before .before .before .row-channel .result) (u .before .before .row-place .result) ≡ true
+    → let p = u .before .before in
+    let s = start (p .before .before) in
+    stands (s .args .store .now) (s .args .l) (p .before .row-channel .result) (p .row-place .result) ≡ true
 stood u = held (u .before .row-stands .ensures) (u .if1 .left)
 
 rows-requires : tie.Need-rows-requires Inv-loop μ-loop
@@ -49,13 +52,13 @@ loop-holds c = walk-none _ _
 
 row-channel-requires : tie.Need-row-channel-requires Inv-loop μ-loop
 row-channel-requires c κs =
-    let s = c .before .before .before .before in
+    let s = start c in
     let h = link s in
     (s .pre .0 .long, (h .0, omega arith))
 
 row-place-requires : tie.Need-row-place-requires Inv-loop μ-loop
 row-place-requires c κs =
-    let s = c .before .before .before .before .before in
+    let s = start (c .before) in
     let h = link s in
     (s .pre .0 .long, (h .0, omega arith))
 

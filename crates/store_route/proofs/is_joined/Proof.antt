@@ -9,6 +9,9 @@ use borrow.Author.Needs.{needs}
 use Rattle.store_route.proofs.is_joined.Statement.{statement}
 use Rattle.store_route.proofs.is_joined.Tie as tie
 
+abbrev start : tie.After-shared-slice-known4 → tie.Start
+start c = c .before .before .before .before .before
+
 returns : tie.Need-returns
 returns c = sym (joins-first _ _ _ (c .if1 .taken))
 
@@ -35,7 +38,7 @@ shared-slice-read-before c = search needs
 
 from-requires : tie.Need-from-requires
 from-requires c κs =
-    let s = c .before .before .before .before .before in (
+    let s = start c in (
       s .pre .0,
       link-bound (s .args .store .now) (from (s .args .numbers .now) (s .args .at)) (s .args .j + 1) (s .pre .1 .1 .0)
           (s .pre .1 .1 .1) (s .args .j) (omega arith),
@@ -43,7 +46,7 @@ from-requires c κs =
 
 to-requires : tie.Need-to-requires
 to-requires c κs =
-    let s = c .before .before .before .before .before .before in (
+    let s = start (c .before) in (
       s .pre .0,
       link-bound (s .args .store .now) (from (s .args .numbers .now) (s .args .at)) (s .args .j + 1) (s .pre .1 .1 .0)
           (s .pre .1 .1 .1) (s .args .j - 1) (omega arith),

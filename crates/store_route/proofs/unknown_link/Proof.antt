@@ -17,6 +17,9 @@ abbrev μ-loop : tie.MeasureT-loop
 links-requires : tie.Need-links-requires Inv-loop μ-loop
 links-requires c κs = search needs
 
+abbrev start : tie.In-loop Inv-loop μ-loop → tie.Start Inv-loop μ-loop
+start t = t .before .before .before .before .before
+
 loop-holds : tie.Need-loop-holds Inv-loop μ-loop
 loop-holds c = passing-none _ _
 
@@ -33,7 +36,7 @@ returns : tie.Need-returns Inv-loop μ-loop
 returns c =
     let t = c .before .before in
     passing-first _ _ _ (t .before .loop .inv) (t .loop-test .taken) (unknown
-    (t .before .before .before .before .before .args .store .now) _ _ (t .before .before .links .ensures) (c .if1 .taken))
+    (start t .args .store .now) _ _ (t .before .before .links .ensures) (c .if1 .taken))
 
 add-j : tie.Need-add-j Inv-loop μ-loop
 add-j c = omega arith
@@ -45,7 +48,7 @@ loop-again : tie.Need-loop-again Inv-loop μ-loop
 loop-again c =
     let t = c .before .before in
     passing-more _ _ _ (t .before .loop .inv) (t .loop-test .taken)
-    (known (t .before .before .before .before .before .args .store .now) _ _ (t .before .before .links .ensures) (c .if1 .left))
+    (known (start t .args .store .now) _ _ (t .before .before .links .ensures) (c .if1 .left))
 
 returns-2 : tie.Need-returns-2 Inv-loop μ-loop
 returns-2 c = passing-end _ _ _ (c .before .loop .inv) (c .loop-test .left)

@@ -18,6 +18,10 @@ Inv-loop text from value₀ i₀ value i = Read text from value i
 abbrev μ-loop : tie.MeasureT-loop
 μ-loop text from value₀ i₀ value i = length text - i
 
+-- the turn in which a digit was read
+abbrev turn : tie.After-wide Inv-loop μ-loop → tie.In-loop Inv-loop μ-loop
+turn c = c .before .before .before .before .before
+
 loop-holds : tie.Need-loop-holds Inv-loop μ-loop
 loop-holds c = read-none _ _
 
@@ -42,7 +46,7 @@ sub-if4 c = omega (arith, c .wide .ensures)
 
 returns-3 : tie.Need-returns-3 Inv-loop μ-loop
 returns-3 c =
-    let l = c .before .before .before .before .before .before in
+    let l = turn (c .before) in
     read-large _ _ _ _ (l .before .loop .inv) (l .loop-test .taken) (c .before .before .before .before .if1 .left)
     (omega arith)
 
@@ -60,7 +64,7 @@ loop-less c = omega arith
 
 loop-again : tie.Need-loop-again Inv-loop μ-loop
 loop-again c =
-    let l = c .before .before .before .before .before .before in
+    let l = turn (c .before) in
     rw (c .before .wide .ensures)
     (read-more _ _ _ _ (l .before .loop .inv) (l .loop-test .taken) (c .before .before .before .before .if1 .left)
     (omega arith) (omega arith) (omega arith))
