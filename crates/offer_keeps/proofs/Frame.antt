@@ -5,8 +5,8 @@ use mathlib.Core.Path.{_≡_, _∙_}
 use native.Mathlib.Omega.{arith}
 use lib.ListN.{length}
 use Rattle.kinds.specs.Ranges.{mostChannels}
-use Rattle.store.specs.Layout.{Store, Long, numberAt, clockAt, messagesAt, timeAt, endAt}
-use Rattle.store.specs.Layout.{clockOf, messagesOf, timeOf, endOf, withTime, withEnd}
+use Rattle.store.specs.Layout.{Store, Long, numberAt, clockAt, messagesAt, timeAt, endAt, clockOf, messagesOf, timeOf, endOf}
+use Rattle.store.specs.Layout.{withTime, withEnd}
 use Rattle.store.specs.Amounts.{acceptedOf}
 use Rattle.store.proofs.Laws.Layout.{written, beside, as-long}
 use Rattle.store_same.proofs.Same.{SameRecord}

@@ -33,11 +33,13 @@ outcome w q = firstFailed Refused (take 3 (lateChecks w q)) (Accepted 0)
 
 -- a channel that fills the buffer, and one that asks for a packet more: B × C
 full : outcome network (asked 32 100 40 2) ≡ Accepted 0
-unfolding outcome asked firstFailed every firstNot sumTo reservedAlong reservedOf network rowsTo smallest response tried need start packets work ceil
+unfolding outcome asked firstFailed every firstNot sumTo reservedAlong reservedOf network rowsTo smallest response tried need
+    start packets work ceil
 full = refl
 
 over : outcome network (asked 13 100 40 5) ≡ Refused 10 0
-unfolding outcome asked firstFailed every firstNot sumTo reservedAlong reservedOf network rowsTo smallest response tried need start packets work ceil
+unfolding outcome asked firstFailed every firstNot sumTo reservedAlong reservedOf network rowsTo smallest response tried need
+    start packets work ceil
 over = refl
 
 -- two links in a row

@@ -1,5 +1,5 @@
--- Document 01, "Numbers given back on a refusal": the checks of an open. "Checks run in this order: open 17, 14, 1 to 10"; 17 once
--- more "after all other checks".
+-- Document 01, "Numbers given back on a refusal": the checks of an open. "Checks run in this order: open 17, 14, 1 to 10"; 17
+-- once more "after all other checks".
 use Prim.Native.Nat.{ℕ, _+_}
 use mathlib.Core.Bool.{Bool}
 use mathlib.Core.List.{List, [], _∷_, _++_}

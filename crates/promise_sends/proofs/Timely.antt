@@ -40,7 +40,8 @@ module _ {w : Store} {all : Accepted} (s : Seen w all) (on : Steady w all) where
     row-timely : InTime w all (sendAt w l x j)
     row-timely =
         let g = leaving (s .sound) l k here e in
-        let y = next-is (s .sound .channel x (g .stands .channel)) (s .told x (g .stands .channel)) j (g .stands .place) (g .held) in
+        let h = g .stands .channel in
+        let y = next-is (s .sound .channel x h) (s .told x h) j (g .stands .place) (g .held) in
         let message : messageOf w x j - 1 ≡ y .n = omega (arith, y .number) in
         record {
           known = g .stands .channel;

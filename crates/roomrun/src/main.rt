@@ -1,6 +1,6 @@
 // roomrun: plays a script of requests and slots from standard input, and writes the listing of document 01 to standard output.
-// What there is to say of it is said of the steps of crate `script_run`; here chunks are read, and the buffer is written out when it is
-// full. docs/SCRIPT.md is the operator's reference.
+// What there is to say of it is said of the steps of crate `script_run`; here chunks are read, and the buffer is written out when
+// it is full. docs/SCRIPT.md is the operator's reference.
 use libc::STDIN_FILENO;
 use libc::STDOUT_FILENO;
 use script_listing::BUFFER;

@@ -8,8 +8,7 @@ use Rattle.schedule.specs.Link.{Current, OnTime, Sent, Turn, Offered}
 use Rattle.schedule.specs.Messages.{Message, ended}
 use Rattle.schedule.specs.Channel.{Channel, Course, rowAt, offset, headOf, entered, Held, Counted, Accepts, Sends, Steps}
 use Rattle.schedule.specs.Channel.{sending, accepting}
-use Rattle.schedule.proofs.Messages.{head-send, head-offer, all-sent, Unsent, head-message}
-use Rattle.schedule.proofs.Messages.{ended-in}
+use Rattle.schedule.proofs.Messages.{head-send, head-offer, all-sent, Unsent, head-message, ended-in}
 
 module _ (ch : Channel) (now : Course) (ok : Counted ch now) where
   -- where the head is on time, a message whose deadline there is past is wholly sent there

@@ -9,17 +9,17 @@ use native.Mathlib.Omega.{arith}
 use Rattle.response.specs.declared.Row.{Row}
 use Rattle.schedule.specs.Feasible.{Apart, Constrained, Table}
 use Rattle.schedule.specs.Due.{demand, total}
-use Rattle.schedule.specs.Link.{Head, Partly, Before, Current, deadline, OnTime, Behind, owed, Sent, Offered}
+use Rattle.schedule.specs.Link.{Head, Partly, Before, Current, deadline, OnTime, Behind, owed, Sent, Offered, By, J, Pick}
+use Rattle.schedule.specs.Link.{Slot}
 use Rattle.schedule.specs.Lists.{_∈_}
-use Rattle.schedule.specs.Link.{By, J, Pick, Slot}
 use Rattle.schedule.specs.Link.Pick.{sends, rests}
 use Rattle.schedule.proofs.Lists.{every-map, in-insert}
 use Rattle.schedule.proofs.Total.{total-le, total-lt, total-in, total-insert, total-map}
 use Rattle.schedule.proofs.Demand.{demand-bound}
 use Rattle.schedule.proofs.Feasible.{table-apart}
 use Rattle.schedule.proofs.Due.{demand-mono}
-use Rattle.schedule.proofs.Head.{owed-fresh, owed-later, sent-one, turn-less, turn-partly}
-use Rattle.schedule.proofs.Head.{offered-less, offered-partly, on-time, behind-later}
+use Rattle.schedule.proofs.Head.{owed-fresh, owed-later, sent-one, turn-less, turn-partly, offered-less, offered-partly}
+use Rattle.schedule.proofs.Head.{on-time, behind-later}
 
 -- What J gives.
 module _ {K : Type 0} (row : K → Row) (head : K → Head) (ks : List K) (t : ℕ) (table : Table (map row ks))

@@ -12,8 +12,8 @@ use Rattle.schedule.specs.Link.Pick.{sends as link-sends, rests as link-
 use Rattle.schedule.specs.Link.Offered.{behind}
 use Rattle.schedule.specs.Messages.{Message}
 use Rattle.schedule.specs.Channel.{offset, headOf, Held}
-use Rattle.schedule.specs.Network.{Key, Plan, Traffic, HeldAt, row, head, Inside, Planned, AllCounted, OnLinks}
-use Rattle.schedule.specs.Network.{Picks, Step, stepped, Offers}
+use Rattle.schedule.specs.Network.{Key, Plan, Traffic, HeldAt, row, head, Inside, Planned, AllCounted, OnLinks, Picks, Step}
+use Rattle.schedule.specs.Network.{stepped, Offers}
 use Rattle.schedule.specs.Network.Picks.{sends, rests}
 use Rattle.schedule.proofs.Feasible.{table-apart}
 use Rattle.schedule.proofs.Link.{nothing-late, fresh, slot-kept, offer-kept}

@@ -1,5 +1,5 @@
--- The buffer of bytes that the listing goes through: its length, and the last places from which a line, and all that a slot writes
--- (16 sends of at most 110 bytes), fit into it.
+-- The buffer of bytes that the listing goes through: its length, and the last places from which a line, and all that a slot
+-- writes (16 sends of at most 110 bytes), fit into it.
 use Prim.Native.Nat.{ℕ}
 
 abbrev pub bufferLength : ℕ

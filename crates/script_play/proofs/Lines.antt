@@ -18,7 +18,8 @@ use Rattle.script_play.specs.declared.Phase.{Phase}
 use Rattle.script_play.specs.declared.Phase.the-variants.{Before, Running, Over}
 use Rattle.script_play.specs.declared.Next.the-variants.{Line as Next·Line}
 use Rattle.script_play.specs.declared.Played.{Played}
-use Rattle.script_play.specs.Play.{Step, answered, linkHeard, linksHeard, started, followed, firstOn, first, played, playedLinks}
+use Rattle.script_play.specs.Play.{Step, answered, linkHeard, linksHeard, started, followed, firstOn, first, played}
+use Rattle.script_play.specs.Play.{playedLinks}
 use Rattle.script_play.specs.At.{playedAt}
 use Rattle.script_play.proofs.Front.{answered-front, heard-front, asks-fit}
 use Rattle.script_play.proofs.Lengths.{started-length}

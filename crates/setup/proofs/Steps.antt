@@ -10,11 +10,10 @@ use Rattle.store.specs.Layout.{Store, storeLength, withLinks}
 use Rattle.setup.specs.declared.SetUp.{SetUp}
 use Rattle.setup.specs.declared.SetUp.the-variants.{Ready, Refused}
 use Rattle.setup_list.specs.List.{linksIn, linkPassesAt, linksPass}
-use Rattle.setup_fresh.specs.Fresh.{zeroed, linksWritten}
-use Rattle.setup_fresh.specs.Fresh.{freshStore}
+use Rattle.setup_fresh.specs.Fresh.{zeroed, linksWritten, freshStore}
 use Rattle.setup.specs.SetUp.{setUpAnswer, setUpStore}
-use Rattle.setup.proofs.Laws.Answer.{Accepted, refused-count, refused-link, refused-short, accepted-ready}
-use Rattle.setup.proofs.Laws.Answer.{ready-store, refused-store}
+use Rattle.setup.proofs.Laws.Answer.{Accepted, refused-count, refused-link, refused-short, accepted-ready, ready-store}
+use Rattle.setup.proofs.Laws.Answer.{refused-store}
 use Rattle.setup_list.proofs.Steps.{bad-fails}
 
 -- what the code answers, and what it leaves in the store, at each of its ends
@@ -34,11 +33,13 @@ module _ (w : Store) (numbers : List ℕ) where
     ends-link bad c first h =
         refuses 16 bad (refused-link w numbers c (bad-fails numbers n bad count first h) ∙ rw (sym count, sym first))
 
-    pub ends-ready : (a b v : Store) → Accepted w numbers → a ≡ zeroed w → b ≡ withLinks a n → v ≡ linksWritten b numbers n → Ends Ready v
+    pub ends-ready : (a b v : Store) → Accepted w numbers → a ≡ zeroed w → b ≡ withLinks a n → v ≡ linksWritten b numbers n
+        → Ends Ready v
     unfolding freshStore
     ends-ready a b v accepted ea eb ev =
         let e = accepted-ready w numbers accepted in
         (sym e, rw (ev, eb, ea, count) (sym (ready-store w numbers e)))
 
-  pub ends-short : inRangeLinks (linksIn numbers) ≡ true → linksPass numbers ≡ true → length w < storeLength → Ends (Refused 17 0) w
+  pub ends-short : inRangeLinks (linksIn numbers) ≡ true → linksPass numbers ≡ true → length w < storeLength
+      → Ends (Refused 17 0) w
   ends-short c p h = refuses 17 0 (refused-short w numbers c p h)

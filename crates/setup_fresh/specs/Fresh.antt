@@ -1,5 +1,5 @@
 -- Document 01, network set-up: the store that an accepted set-up writes.
-use Prim.Native.Nat.{ℕ, zero, suc, _+_}
+use Prim.Native.Nat.{ℕ, zero, suc}
 use mathlib.Core.List.{List, _++_}
 use lib.ListN.{replicate, drop}
 use Rattle.store.specs.Layout.{Store, storeLength, withLinks, withFrom, withTo, withHorizon, withBuffer}

@@ -1,5 +1,4 @@
 -- A packet on its way, computed from the definitions.
-use Prim.Native.Nat.{ℕ}
 use mathlib.Core.Path.{_≡_, refl}
 use lib.ListN.{replicate}
 use Rattle.store.specs.Layout.{Store, sentOf, withLinks, withChannels, withHorizon, withRows, withRowPlace, withC, withP, withB}
@@ -25,8 +24,8 @@ two-links =
     on-route : Store
     on-route = withDelay (withDelay (withRoute (withHops spoken 0 2) 0 1 1) 0 0 1) 0 1 1
 
--- "A packet sent in slot s stands at the next node from slot s + 1": link 0 sends it, and link 1 does not send it in the same slot,
--- though it would be within the horizon there.
+-- "A packet sent in slot s stands at the next node from slot s + 1": link 0 sends it, and link 1 does not send it in the same
+-- slot, though it would be within the horizon there.
 sent-once : sentOf (moved two-links) 0 0 ≡ 1
 unfolding spaced two-links moved movedTo pickOf bestOf messageWith enteredOf sumTo
 sent-once = refl

@@ -11,8 +11,7 @@ use Rattle.kinds.specs.declared.Route.{Route}
 use Rattle.kinds.specs.declared.CheckedChannel.the-variants as channel
 use Rattle.kinds.specs.declared.CheckedRoute.the-variants as route
 use Rattle.kinds.proofs.Laws.{within-true, channel-bounds, good-channel, refused-channel, good-route, refused-route}
-use Rattle.store.specs.Layout.{Store, routeOf, cOf, pOf, dOf, bOf, hopsOf, delayOf}
-use Rattle.store.specs.Layout.{sentOf}
+use Rattle.store.specs.Layout.{Store, routeOf, cOf, pOf, dOf, bOf, hopsOf, delayOf, sentOf}
 use Rattle.folds.specs.Folds.{every}
 use Rattle.store.specs.Route.{routePasses}
 use Rattle.store.specs.Amounts.{enteredOf}
@@ -71,7 +70,8 @@ module _ (w : Store) (x hops p : ℕ) where
 
 -- Checks 1 and 2, by what the constructors answer to the numbers as they were read.
 module _ (w : Store) (x k p d b : ℕ) (ek : k ≡ cOf w x) (ep : p ≡ pOf w x) (ed : d ≡ dOf w x) (eb : b ≡ bOf w x) where
-  pub numbers-pass : {y : Channel} → newChannel k p d b ≡ channel.Good y → channelPasses (cOf w x) (pOf w x) (dOf w x) (bOf w x) ≡ true
+  pub numbers-pass : {y : Channel} → newChannel k p d b ≡ channel.Good y
+      → channelPasses (cOf w x) (pOf w x) (dOf w x) (bOf w x) ≡ true
   numbers-pass e = good-channel (cOf w x) (pOf w x) (dOf w x) (bOf w x) (rw (ek, ep, ed, eb) at e)
 
   pub numbers-fail : {n : ℕ} → newChannel k p d b ≡ channel.Refused n → false ≡ channelFits w x

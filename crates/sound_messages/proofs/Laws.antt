@@ -10,8 +10,7 @@ use mir.Val.{Fits}
 use lib.Dec.{leb, ltb}
 use borrow.Author.Tests.{leb-true, le-leb, lt-leb, lt-ltb, le-ltb}
 use Rattle.kinds.specs.Ranges.{mostC, mostNumber, isNumber}
-use Rattle.store.specs.Layout.{Store, ring, placeBefore, cOf, pOf, hopsOf, messagesOf}
-use Rattle.store.specs.Layout.{sentOf, timeOf, endOf}
+use Rattle.store.specs.Layout.{Store, ring, placeBefore, cOf, pOf, hopsOf, messagesOf, sentOf, timeOf, endOf}
 use Rattle.store.specs.Amounts.{acceptedOf, deliveredOf}
 use Rattle.store.specs.Sound.{delivered, follows, inOrder, messagesFit}
 use Rattle.store.proofs.Laws.Ring.{ring-same, ring-next, ring-time, ring-end, ring-back}

@@ -1,5 +1,5 @@
--- A text put into a buffer, and a part of one. What a call of `text_decimal`, `script_line` or `script_listing` writes stands in a buffer
--- from a given place on; the rest of the buffer is as it was.
+-- A text put into a buffer, and a part of one. What a call of `text_decimal`, `script_line` or `script_listing` writes stands in
+-- a buffer from a given place on; the rest of the buffer is as it was.
 use Prim.Native.Nat.{ℕ, _+_, _-_}
 use mathlib.Core.List.{List, _++_}
 use lib.ListN.{length, take, drop}

@@ -84,7 +84,8 @@ is-sound-requires c κs = search needs
 returns : tie.Need-returns
 returns c =
     let s = c .before .before .before in
-    answer-refused (store s) (s .args .number) (s .args .packets) 0 refl tt (refuted (c .before .is-sound .ensures) (c .if1 .taken))
+    answer-refused (store s) (s .args .number) (s .args .packets) 0 refl tt
+    (refuted (c .before .is-sound .ensures) (c .if1 .taken))
 
 clock-requires : tie.Need-clock-requires
 clock-requires c κs = sound-is (store (start-17 c)) (past-17 c .0) .long

@@ -51,8 +51,8 @@ pub record Joined (w w′ : Store) (l at x j : ℕ) : Type 0 where
   pub lower-channel : (k : ℕ) → at ≤ k → k < rowsOf w l → rowChannelOf w′ l (suc k) ≡ rowChannelOf w l k
   pub lower-place : (k : ℕ) → at ≤ k → k < rowsOf w l → rowPlaceOf w′ l (suc k) ≡ rowPlaceOf w l k
 
--- The store w′ after an accepted open, in which the new channel x has delay d j at place j. One frame for every number that is not
--- written: neither the count of channels, nor in x's record, nor a row or the count of rows of a link of the route.
+-- The store w′ after an accepted open, in which the new channel x has delay d j at place j. One frame for every number that is
+-- not written: neither the count of channels, nor in x's record, nor a row or the count of rows of a link of the route.
 pub record After (w w′ : Store) (x : ℕ) (q : Request) (d : ℕ → ℕ) : Type 0 where
   pub as-long : length w′ ≡ length w
   pub frame : (at : ℕ) → (at ≡ channelsAt → ⊥)

@@ -12,7 +12,8 @@ use Rattle.roomrun.proofs.play_all.Tie as tie
 
 abbrev Inv-loop : tie.InvT-loop
 Inv-loop store₀ links₀ text₀ out₀ input₀ run₀ reads₀ store links text out input run reads =
-    (length text ≡ mostKept) × ((65_536 ≡ length input) × ((run .next ≡ Line) × ((run .length ≤ mostKept) × (run .at ≤ bufferLength))))
+    (length text ≡ mostKept)
+    × ((65_536 ≡ length input) × ((run .next ≡ Line) × ((run .length ≤ mostKept) × (run .at ≤ bufferLength))))
 
 abbrev μ-loop : tie.MeasureT-loop
 μ-loop store₀ links₀ text₀ out₀ input₀ run₀ reads₀ store links text out input run reads = reads

@@ -3,8 +3,8 @@ use mathlib.Core.Path.{_≡_, refl}
 use mathlib.Core.List.{[], _∷_}
 use Rattle.text_decimal.specs.Decimal.{spelled, decimal}
 use Rattle.script_line.specs.Phrase.{spaced}
-use Rattle.script_listing.specs.Listing.{lineOf, sharesTo, channelLine}
-use Rattle.script_listing.specs.Listing.{linksLine, refusedLine, acceptLine, sendLine, slotLine, badLine}
+use Rattle.script_listing.specs.Listing.{lineOf, sharesTo, channelLine, linksLine, refusedLine, acceptLine, sendLine}
+use Rattle.script_listing.specs.Listing.{slotLine, badLine}
 
 -- "links 2"
 links-2 : linksLine 2 ≡ 108 ∷ 105 ∷ 110 ∷ 107 ∷ 115 ∷ 32 ∷ 50 ∷ 10 ∷ []

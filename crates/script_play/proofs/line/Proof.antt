@@ -77,7 +77,8 @@ answer-line-requires-2 c κs =
     let known = no-link call .before .before .before in
     let read = known .before .before in
     let args = read .before .before .before .args in
-    let place = started-place (args .store .now) (args .links .now) (known .phase .given .0 .0) (args .at) (call .set-up .ensures .0) in
+    let place =
+    started-place (args .store .now) (args .links .now) (known .phase .given .0 .0) (args .at) (call .set-up .ensures .0) in
     (rw (read .read .ensures .0) (asks-few _), omega (arith, place))
 
 returns-2 : tie.Need-returns-2

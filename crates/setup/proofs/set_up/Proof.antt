@@ -24,7 +24,8 @@ numbers c = c .before .before .before .args .links .now
 
 fit : (c : tie.Else1) → inRangeLinks (linksIn (numbers (c .before .before))) ≡ true
 fit c =
-    ap inRangeLinks (sym (c .before .before .links-in .ensures)) ∙ (sym (c .before .links-fit .ensures) ∙ not-false _ (c .if1 .left))
+    ap inRangeLinks (sym (c .before .before .links-in .ensures))
+    ∙ (sym (c .before .links-fit .ensures) ∙ not-false _ (c .if1 .left))
 
 few : (c : tie.Else1) → c .before .before .links-in .result ≤ mostLinks
 few c =

@@ -61,7 +61,8 @@ returns c =
     let horizon = buffer .before .before .before .before .before in
     let to = horizon .before .before .before .before .before in
     let from = to .before .before .before .before .before in
-    link-written _ _ _ _ _ _ _ (from .put-from .ensures) (to .put-to .ensures) (horizon .put-horizon .ensures) (buffer .put-buffer .ensures)
+    link-written _ _ _ _ _ _ _ (from .put-from .ensures) (to .put-to .ensures) (horizon .put-horizon .ensures)
+    (buffer .put-buffer .ensures)
 
 pub put-link-spec : {M : Type 1} → statement M
 put-link-spec =

@@ -7,8 +7,8 @@ use Rattle.store.specs.Layout.{linksOf}
 use Rattle.store.proofs.Laws.Sound.{sound-is}
 use Rattle.slot_rules.specs.Pick.{pickOf}
 use Rattle.slot_move.proofs.Rows.{no-row, a-row}
-use Rattle.slot_move.proofs.Moves.{Moving, moving-none, moving-pass, moving-ready, moving-more}
-use Rattle.slot_move.proofs.Moves.{moving-long, moving-length, moving-done}
+use Rattle.slot_move.proofs.Moves.{Moving, moving-none, moving-pass, moving-ready, moving-more, moving-long, moving-length}
+use Rattle.slot_move.proofs.Moves.{moving-done}
 use Rattle.slot_move.proofs.move_on.Statement.{statement}
 use Rattle.slot_move.proofs.move_on.Tie as tie
 

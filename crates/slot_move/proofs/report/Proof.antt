@@ -7,7 +7,8 @@ use Rattle.store.specs.Layout.{linksOf}
 use Rattle.store.proofs.Laws.Sound.{sound-is}
 use Rattle.slot_rules.specs.Pick.{pickOf}
 use Rattle.slot_move.proofs.Rows.{no-row, a-row}
-use Rattle.slot_move.proofs.Sends.{Sending, sending-none, sending-pass, sending-more, sending-few, sending-size, sending-done}
+use Rattle.slot_move.proofs.Sends.{Sending, sending-none, sending-pass, sending-more, sending-few, sending-size}
+use Rattle.slot_move.proofs.Sends.{sending-done}
 use Rattle.slot_move.proofs.report.Statement.{statement}
 use Rattle.slot_move.proofs.report.Tie as tie
 

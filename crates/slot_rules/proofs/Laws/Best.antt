@@ -81,7 +81,8 @@ module _ (may : ℕ → Bool) (key channel : ℕ → ℕ) where
     inside = omega arith;
     may-go = e;
     leads = λ k h m.
-        below k n h (λ l. leads-on key channel n i k (before-leads key channel n i g) (x .leads k l m)) (λ s. rw s (inr (refl, omega arith)));
+        below k n h (λ l. leads-on key channel n i k (before-leads key channel n i g) (x .leads k l m))
+        (λ s. rw s (inr (refl, omega arith)));
   }
 
   pub best-old : (n i : ℕ) → goesBefore key channel n i ≡ false → Best n (suc i) → Best (suc n) (suc i)

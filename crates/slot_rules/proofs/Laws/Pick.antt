@@ -7,8 +7,8 @@ use native.Mathlib.Omega.{arith}
 use lib.Dec.{leb}
 use borrow.Author.Tests.{leb-true, leb-false, le-leb, lt-leb, not-true}
 use Rattle.store.specs.Layout.{Store, clockOf, horizonOf, rowsOf, rowChannelOf}
-use Rattle.slot_rules.specs.Pick.{rowHeld, rowCurrent, rowEarly, rowLogical, rowDeadline, dueOf, soonOf}
-use Rattle.slot_rules.specs.Pick.{withinHorizon, pickFrom, pickOf}
+use Rattle.slot_rules.specs.Pick.{rowHeld, rowCurrent, rowEarly, rowLogical, rowDeadline, dueOf, soonOf, withinHorizon}
+use Rattle.slot_rules.specs.Pick.{pickFrom, pickOf}
 use Rattle.slot_rules.proofs.Laws.Best.{Leads, Wins, Best, best-is}
 
 -- "the current packet with the earliest deadline, ties to the lower channel number": no current packet that the link holds has an

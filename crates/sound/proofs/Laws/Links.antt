@@ -16,8 +16,8 @@ abbrev pub checkedLink : Store → (l : ℕ) → CheckedLink
 checkedLink w l = newLink (fromOf w l) (toOf w l) (horizonOf w l) (bufferOf w l)
 
 module _ (w : Store) (l : ℕ) where
-  pub link-read : {from to horizon buffer : ℕ} → from ≡ fromOf w l → to ≡ toOf w l → horizon ≡ horizonOf w l → buffer ≡ bufferOf w l
-      → newLink from to horizon buffer ≡ checkedLink w l
+  pub link-read : {from to horizon buffer : ℕ} → from ≡ fromOf w l → to ≡ toOf w l → horizon ≡ horizonOf w l
+      → buffer ≡ bufferOf w l → newLink from to horizon buffer ≡ checkedLink w l
   link-read f t h b = rw (f, t, h, b)
 
   module _ {o : CheckedLink} (e : o ≡ checkedLink w l) where

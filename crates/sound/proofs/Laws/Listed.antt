@@ -38,7 +38,8 @@ module _ (w : Store) (f : Fit w) (s : every (rowsSound w) (linksOf w) ≡ true) 
   key-next l k hl hk =
       let x : IsChannel w (rowChannelOf w l k) = rows-on l hl .rows k (omega arith) .channel in
       let m : rowChannelOf w l k < mostChannels = omega (arith, fit-counts w f .channels-most) in
-      key-less (rowDelayOf w l k) (rowChannelOf w l k) (rowDelayOf w l (suc k)) (rowChannelOf w l (suc k)) m (rows-on l hl .sorted k hk)
+      key-less (rowDelayOf w l k) (rowChannelOf w l k) (rowDelayOf w l (suc k)) (rowChannelOf w l (suc k)) m
+      (rows-on l hl .sorted k hk)
 
   key-rises : (l i k : ℕ) → l < linksOf w → i < k → k < rowsOf w l → row-key l i < row-key l k
   key-rises l i zero hl h hk = absurd (omega arith)
@@ -95,7 +96,8 @@ module _ (w : Store) (f : Fit w) (s : every (rowsSound w) (linksOf w) ≡ true) 
 
   as-many : eqb (sumTo (rowsOf w) (linksOf w)) (sumTo (hopsOf w) (channelsOf w)) ≡ every (allListed w) (channelsOf w)
   as-many =
-      let rows = all-rows (linksOf w) (channelsOf w) (rowsOf w) (hopsOf w) (λ x j l. count (rowIs w x j l)) (λ x. count (listed w x))
+      let rows = all-rows (linksOf w) (channelsOf w) (rowsOf w) (hopsOf w) (λ x j l. count (rowIs w x j l))
+      (λ x. count (listed w x))
       one-place of-place in
       ap (λ n. eqb n (sumTo (hopsOf w) (channelsOf w))) rows
       ∙ sums-equal (λ x. sumTo (count (listed w x)) (hopsOf w x)) (hopsOf w) (allListed w) (channelsOf w)

@@ -1,7 +1,8 @@
 -- `sound::is_sound` meets its contract, part by part.
 use Rattle.store.specs.Ranged.{Fit}
 use Rattle.kinds.proofs.Laws.{refuted, held}
-use Rattle.sound.proofs.Laws.Whole.{Counted, Linked, Filled, too-short, bad-counts, bad-links, bad-channels, bad-rows, fit, lists}
+use Rattle.sound.proofs.Laws.Whole.{Counted, Linked, Filled, too-short, bad-counts, bad-links, bad-channels, bad-rows, fit}
+use Rattle.sound.proofs.Laws.Whole.{lists}
 use borrow.Author.Needs.{needs}
 use Rattle.sound.proofs.is_sound.Statement.{statement}
 use Rattle.sound.proofs.is_sound.Tie as tie

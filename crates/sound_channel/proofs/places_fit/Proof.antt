@@ -2,7 +2,8 @@
 use Prim.Native.Nat.{_-_}
 use native.Mathlib.Omega.{arith}
 use borrow.Author.Needs.{needs}
-use Rattle.sound_channel.proofs.Laws.{Placing, placing-none, placing-low, placing-high, placing-over, placing-more, placing-done}
+use Rattle.sound_channel.proofs.Laws.{Placing, placing-none, placing-low, placing-high, placing-over, placing-more}
+use Rattle.sound_channel.proofs.Laws.{placing-done}
 use Rattle.sound_channel.proofs.places_fit.Statement.{statement}
 use Rattle.sound_channel.proofs.places_fit.Tie as tie
 

@@ -4,7 +4,8 @@ use native.Mathlib.Omega.{arith}
 use borrow.Author.Needs.{needs}
 use Rattle.kinds.proofs.Laws.{refuted, held}
 use Rattle.store.proofs.Laws.Ring.{ring-inside, ring-after}
-use Rattle.sound_messages.proofs.Laws.{Ordering, ordering-delivered, ordering-lost, ordering-broken, ordering-more, ordering-end, sent-delivered}
+use Rattle.sound_messages.proofs.Laws.{Ordering, ordering-delivered, ordering-lost, ordering-broken, ordering-more}
+use Rattle.sound_messages.proofs.Laws.{ordering-end, sent-delivered}
 use Rattle.sound_messages.proofs.in_order.Statement.{statement}
 use Rattle.sound_messages.proofs.in_order.Tie as tie
 

@@ -84,7 +84,8 @@ module _ {w : Store} {l k x j : ℕ} (r : Row w l k x j) where
     pub row-most : {reserved : ℕ} → reserved ≡ reservedOf w x j → reserved ≤ mostReserved
     row-most er = rw er (reserved-most w x j row-ranged row-place)
 
-    module _ {above higher d : ℕ} (ea : above ≡ delayAbove w l k) (eh : higher ≡ channelAbove w l k) (ed : d ≡ delayOf w x j) where
+    module _ {above higher d : ℕ} (ea : above ≡ delayAbove w l k) (eh : higher ≡ channelAbove w l k)
+        (ed : d ≡ delayOf w x j) where
       order : follows above higher d x ≡ rowFollows w l k
       order =
           let p : 1 ≤ rowDelayOf w l k = rw (r .its-channel, r .its-place) at (row-ranged .delay-least j row-place) in
@@ -96,7 +97,8 @@ module _ {w : Store} {l k x j : ℕ} (r : Row w l k x j) where
           let t : rowFollows w l k ≡ false = sym order ∙ o in
           no-row w l k (r .below) (rw (s, t))
 
-      module _ (o : follows above higher d x ≡ true) {held reserved : ℕ} (ek : held ≡ heldOf w x j) (er : reserved ≡ reservedOf w x j) where
+      module _ (o : follows above higher d x ≡ true) {held reserved : ℕ} (ek : held ≡ heldOf w x j)
+          (er : reserved ≡ reservedOf w x j) where
         t : rowFollows w l k ≡ true
         t = sym order ∙ o
 
@@ -128,8 +130,8 @@ module _ (w : Store) (l : ℕ) where
   }
 
   module _ (above higher sum k : ℕ) (p : Walk w l above higher sum k) where
-    pub walk-more : {x j d r : ℕ} → Row w l k x j → d ≡ delayOf w x j → r ≡ reservedOf w x j → rowSound w l k ≡ true → r ≤ mostReserved
-        → Walk w l d x (sum + r) (k + 1)
+    pub walk-more : {x j d r : ℕ} → Row w l k x j → d ≡ delayOf w x j → r ≡ reservedOf w x j → rowSound w l k ≡ true
+        → r ≤ mostReserved → Walk w l d x (sum + r) (k + 1)
     unfolding delayAbove channelAbove
     walk-more {r = r} row ed er e m =
         let ec = row .its-channel in

@@ -9,8 +9,8 @@ use Rattle.store.specs.Layout.{rowsOf}
 use Rattle.sound_rows.specs.Rows.{stands}
 use Rattle.kinds.proofs.Laws.{refuted, held}
 use Rattle.sound_rows.proofs.Laws.There.{link-most, rows-most}
-use Rattle.sound_rows.proofs.Laws.Walk.{Walk, walk-none, walk-more, walk-fits, walk-done, Row, row-absent, row-place, row-ranged}
-use Rattle.sound_rows.proofs.Laws.Walk.{row-at, row-flows, row-early, row-full, row-good, row-most}
+use Rattle.sound_rows.proofs.Laws.Walk.{Walk, walk-none, walk-more, walk-fits, walk-done, Row, row-absent, row-place}
+use Rattle.sound_rows.proofs.Laws.Walk.{row-ranged, row-at, row-flows, row-early, row-full, row-good, row-most}
 use Rattle.sound_rows.proofs.link_rows_sound.Statement.{statement}
 use Rattle.sound_rows.proofs.link_rows_sound.Tie as tie
 
@@ -113,7 +113,8 @@ add-sum c =
     let u = g .before .before .before .before in
     let p = u .before .before in
     let a = p .before .before .before in
-    walk-fits _ _ _ _ _ _ (a .loop .inv) (link (a .before .before .before) .1) _ (row-most (row p) (stood u) (g .reserved .ensures))
+    walk-fits _ _ _ _ _ _ (a .loop .inv) (link (a .before .before .before) .1) _
+    (row-most (row p) (stood u) (g .reserved .ensures))
 
 add-k : tie.Need-add-k Inv-loop μ-loop
 add-k c = omega arith
@@ -131,7 +132,8 @@ loop-again c =
     let i = p .before .before .before .loop .inv in
     let good = row-good (row p) (stood u) (i .delay) (i .channel) (y .delay .ensures)
     (held (x .row-follows .ensures) (g .before .if2 .left)) (c .before .held .ensures) (g .reserved .ensures) (c .if3 .left) in
-    walk-more _ _ _ _ _ _ i (row p) (y .delay .ensures) (g .reserved .ensures) good (row-most (row p) (stood u) (g .reserved .ensures))
+    walk-more _ _ _ _ _ _ i (row p) (y .delay .ensures) (g .reserved .ensures) good
+    (row-most (row p) (stood u) (g .reserved .ensures))
 
 buffer-requires : tie.Need-buffer-requires Inv-loop μ-loop
 buffer-requires c κs =

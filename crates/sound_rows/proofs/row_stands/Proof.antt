@@ -27,7 +27,8 @@ route-requires c κs =
     let a = c .before .before in
     let s = a .before .before .before in
     let h = hops-requires a κs in
-    let k = place-most _ (s .pre) _ _ (a .before .channels .ensures) (a .if1 .left) _ _ (c .before .hops .ensures) (c .if2 .left) in
+    let k =
+    place-most _ (s .pre) _ _ (a .before .channels .ensures) (a .if1 .left) _ _ (c .before .hops .ensures) (c .if2 .left) in
     (h .0, (h .1, k))
 
 returns-3 : tie.Need-returns-3
@@ -35,7 +36,8 @@ returns-3 c =
     let b = c .before in
     let a = b .before .before in
     let w = a .before .before .before .args .store .now in
-    on-link w _ _ _ _ (a .before .channels .ensures) (a .if1 .left) _ (b .before .hops .ensures) (b .if2 .left) _ (c .route .ensures)
+    on-link w _ _ _ _ (a .before .channels .ensures) (a .if1 .left) _ (b .before .hops .ensures) (b .if2 .left) _
+    (c .route .ensures)
 
 pub row-stands-spec : {M : Type 1} → statement M
 row-stands-spec =

@@ -81,7 +81,9 @@ module _ (w : Store) (route : ℕ → ℕ) (n : ℕ) where
       let b = and-eq-true-iff (every (isNew route) n) _ .0 (a .1) in
       record {
         known = λ j h. ltb-true (route j) (linksOf w) (every-at (exists w route) n (a .0) j h);
-        new = λ j i h l. eqb-false (route i) (route j) (not-true _ (every-at (differs route j) j (every-at (isNew route) n (b .0) j h) i l));
+        new = λ j i h l.
+            eqb-false (route i) (route j)
+            (not-true _ (every-at (differs route j) j (every-at (isNew route) n (b .0) j h) i l));
         joined = λ j h. eqb-true _ _ (every-at (joins w route) n (b .1) (suc j) h);
       }
 
@@ -93,7 +95,9 @@ module _ (w : Store) (route : ℕ → ℕ) (n : ℕ) where
   pub is-route : Good345 w route n → routePasses w route n ≡ true
   is-route g =
       both _ _ (every-true (exists w route) n (λ j h. lt-ltb (route j) (linksOf w) (g .known j h)))
-      (both _ _ (every-true (isNew route) n (λ j h. every-true (differs route j) j (λ i l. rw (ne-eqb (route i) (route j) (g .new j i h l)))))
+      (both _ _
+      (every-true (isNew route) n
+      (λ j h. every-true (differs route j) j (λ i l. rw (ne-eqb (route i) (route j) (g .new j i h l)))))
       (every-true (joins w route) n (joins-at g)))
 
 -- how far a channel is: its counts, and its messages
@@ -238,7 +242,8 @@ module _ (w : Store) (l : ℕ) where
       → rowFollows w l (suc k) ≡ true
   unfolding rowFollows
   before-row k (inl h) = rw (lt-ltb _ _ h)
-  before-row k (inr h) = or-true (ltb (rowDelayOf w l k) (rowDelayOf w l (suc k))) _ (both _ _ (eq-eqb _ _ (h .0)) (lt-ltb _ _ (h .1)))
+  before-row k (inr h) =
+      or-true (ltb (rowDelayOf w l k) (rowDelayOf w l (suc k))) _ (both _ _ (eq-eqb _ _ (h .0)) (lt-ltb _ _ (h .1)))
 
   pub row-first : rowFollows w l 0 ≡ true
   unfolding rowFollows
@@ -277,7 +282,8 @@ module _ (w : Store) (l : ℕ) where
   pub are-rows : RowsAre w l → rowsSound w l ≡ true
   are-rows r =
       both _ _
-      (every-true (rowSound w l) (rowsOf w l) (λ k h. both _ _ (is-row w l k (r .rows k h)) (both _ _ (follows-at r k h) (le-leb _ _ (r .holds k h)))))
+      (every-true (rowSound w l) (rowsOf w l)
+      (λ k h. both _ _ (is-row w l k (r .rows k h)) (both _ _ (follows-at r k h) (le-leb _ _ (r .holds k h)))))
       (le-leb _ _ (r .fits))
 
 -- link l has a row for channel x at place j
@@ -335,7 +341,8 @@ module _ (w : Store) where
       (both _ _ (every-true (linkFits w) (linksOf w) (λ l h. is-link w l (s .link l h)))
       (both _ _ (every-true (channelSound w) (channelsOf w) (λ i h. is-channel w i (s .channel i h)))
       (both _ _ (every-true (rowsSound w) (linksOf w) (λ l h. are-rows w l (s .rows l h)))
-      (every-true (allListed w) (channelsOf w) (λ i h. every-true (listed w i) (hopsOf w i) (λ j k. row-listed w i j (s .row i j h k))))))))
+      (every-true (allListed w) (channelsOf w)
+      (λ i h. every-true (listed w i) (hopsOf w i) (λ j k. row-listed w i j (s .row i j h k))))))))
 
   -- what the first parts of a sound store are to those after them
   pub sound-fit : soundOf w ≡ true → Fit w

@@ -5,8 +5,8 @@ use native.Mathlib.Omega.{arith}
 use borrow.Author.Needs.{needs}
 use lib.ListN.{length, length-set}
 use Rattle.text_decimal.proofs.Laws.Decimal.{decimal-length}
-use Rattle.text_decimal.proofs.Writing.{Written, written-none, written-length, written-inside, written-after}
-use Rattle.text_decimal.proofs.Writing.{written-more, written-done}
+use Rattle.text_decimal.proofs.Writing.{Written, written-none, written-length, written-inside, written-after, written-more}
+use Rattle.text_decimal.proofs.Writing.{written-done}
 use Rattle.text_decimal.proofs.write.Statement.{statement}
 use Rattle.text_decimal.proofs.write.Tie as tie
 
