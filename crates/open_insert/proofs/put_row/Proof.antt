@@ -28,14 +28,18 @@ row-channel-requires c κs = omega (arith, size (c .before .before))
 row-place-requires : tie.Need-row-place-requires Inv-loop μ-loop
 row-place-requires c κs = omega (arith, size (c .before .before .before .before))
 
+-- the turn in hand
+abbrev turn : tie.After-put-row-channel-arg Inv-loop μ-loop → tie.At-loop Inv-loop μ-loop
+turn c = c .before .before .before .before .before .before
+
 put-row-channel-requires : tie.Need-put-row-channel-requires Inv-loop μ-loop
-put-row-channel-requires c κs = omega (arith, size (c .before .before .before .before .before .before))
+put-row-channel-requires c κs = omega (arith, size (turn c))
 
 put-row-place-requires : tie.Need-put-row-place-requires Inv-loop μ-loop
 put-row-place-requires c κs =
     let put = c .before .before .before in
     let kept = put .put-row-channel .kept .0 in
-    omega (arith, size (put .before .before .before .before .before .before .before))
+    omega (arith, size (turn (put .before)))
 
 add-k : tie.Need-add-k Inv-loop μ-loop
 add-k c = omega arith

@@ -16,6 +16,9 @@ use Rattle.response.proofs.is_askable.Tie as tie
 abbrev numbers : tie.Start → List ℕ
 numbers c = c .args .table .now
 
+abbrev start : tie.Else2 → tie.Start
+start c = c .before .before .before .before
+
 -- what each check that was passed says
 whole : (c : tie.Else1) → wholeRows (numbers (c .before .before)) ≡ true
 whole c = eq-eqb _ _ (c .if1 .left)
@@ -24,13 +27,13 @@ rows : (c : tie.After-rows-fit)
     → inRangeRows (length (rowsIn (numbers (c .before .before .before)))) ≡ c .rows-fit .result
 rows c = ap inRangeRows (rows-count _) ∙ sym (c .rows-fit .ensures)
 
-few : (c : tie.Else2) → inRangeRows (length (rowsIn (numbers (c .before .before .before .before)))) ≡ true
+few : (c : tie.Else2) → inRangeRows (length (rowsIn (numbers (start c)))) ≡ true
 few c = rows (c .before) ∙ not-false _ (c .if2 .left)
 
-ownC : (c : tie.Else3) → inRangeC (c .before .before .before .before .before .before .args .own) ≡ true
+ownC : (c : tie.Else3) → inRangeC (start (c .before .before) .args .own) ≡ true
 ownC c = held (c .before .c-in-range .ensures) (c .if3 .left)
 
-limitP : (c : tie.Else4) → inRangeP (c .before .before .before .before .before .before .before .before .args .limit) ≡ true
+limitP : (c : tie.Else4) → inRangeP (start (c .before .before .before .before) .args .limit) ≡ true
 limitP c = held (c .before .p-in-range .ensures) (c .if4 .left)
 
 returns : tie.Need-returns

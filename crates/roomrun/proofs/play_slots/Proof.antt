@@ -29,9 +29,13 @@ returns c =
     let i = c .before .before .loop .inv in
     (c .enum-told .given .1, ((i .0, i .1 .0), i .1 .1))
 
+-- the turn in which room was made
+abbrev turn : tie.After-make-room-arg2 Inv-loop μ-loop → tie.At-loop Inv-loop μ-loop
+turn c = c .before .before .before .before .before
+
 make-room-requires : tie.Need-make-room-requires Inv-loop μ-loop
 make-room-requires c κs =
-    let i = c .before .before .before .before .before .loop .inv in
+    let i = turn c .loop .inv in
     omega (arith, i .1 .1, c .make-room-arg2 .given .0)
 
 slots-requires : tie.Need-slots-requires Inv-loop μ-loop
@@ -42,7 +46,7 @@ loop-less c = c .slots .ensures .1 .1 .1 .1
 
 loop-again : tie.Need-loop-again Inv-loop μ-loop
 loop-again c =
-    let i = c .before .before .before .before .before .before .before .before .before .loop .inv in
+    let i = turn (c .before .before .before .before) .loop .inv in
     let e = c .slots .ensures .1 .1 in
     (e .1 .0 .0 ∙ i .0, (e .1 .0 .1 ∙ i .1 .0, e .0 .1))
 

@@ -63,12 +63,15 @@ returns c =
 count-requires : tie.Need-count-requires
 count-requires c κs = search needs
 
+-- the line that was gathered
+abbrev gathered-in : tie.After-line-arg2 → tie.After-gather
+gathered-in c = c .before .before .before .before .before .before .before
+
 slice-reshare-prefix-line : tie.Need-slice-reshare-prefix-line
-slice-reshare-prefix-line c = gathered-within (c .before .before .before .before .before .before .before)
+slice-reshare-prefix-line c = gathered-within (gathered-in c)
 
 slice-aggregate-line : tie.Need-slice-aggregate-line
-slice-aggregate-line c =
-    sym (length-take-le _ _ (gathered-within (c .before .before .before .before .before .before .before .before)))
+slice-aggregate-line c = sym (length-take-le _ _ (gathered-within (gathered-in (c .before))))
 
 line-requires : tie.Need-line-requires
 line-requires c κs = search needs
