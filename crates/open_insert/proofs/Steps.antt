@@ -5,9 +5,8 @@ use mathlib.Core.Bool.{true, false}
 use native.Mathlib.Omega.{arith}
 use lib.ListN.{length}
 use borrow.Author.Tests.{le-leb, lt-leb}
-use Rattle.store.specs.Layout.{Store, numberAt, rowChannelAt, rowPlaceAt, rowsOf, rowChannelOf, rowPlaceOf, routeOf}
-use Rattle.store.specs.Layout.{delayOf, withRows}
-use Rattle.store.specs.Layout.{withRowChannel, withRowPlace}
+use Rattle.store.specs.Layout.{Store, numberAt, rowChannelAt, rowPlaceAt, rowsOf, rowChannelOf, rowPlaceOf, routeOf, delayOf}
+use Rattle.store.specs.Layout.{withRows, withRowChannel, withRowPlace}
 use Rattle.store.specs.Sound.{rowDelayOf}
 use Rattle.open_rules.specs.Join.{noLater, rowsBefore, withRow, rowPut, rowJoined}
 use Rattle.open_rules.proofs.Laws.Row.{row-length, row-beside, put-length}

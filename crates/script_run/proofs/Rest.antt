@@ -1,5 +1,5 @@
 -- What is still to be written, before and after a step.
-use Prim.Native.Nat.{ℕ, suc, _+_, _<_}
+use Prim.Native.Nat.{ℕ, suc, _<_}
 use mathlib.Core.Path.{_≡_, refl}
 use mathlib.Core.Bool.{Bool, true, false}
 use mathlib.Core.List.{List, [], _++_, append-assoc}
@@ -10,8 +10,7 @@ use Rattle.text_decimal.specs.Put.{partOf}
 use Rattle.store.specs.Layout.{Store}
 use Rattle.text_lines.specs.Lines.{linesFrom, ahead, feedAhead, mostKept}
 use Rattle.text_lines.proofs.Laws.{lines-fed, lines-unfed, beyond}
-use Rattle.script_tick.specs.Tick.{tickOut, tickStore, restStore}
-use Rattle.script_tick.specs.Tick.{restOut as tickRest}
+use Rattle.script_tick.specs.Tick.{tickOut, tickStore, restStore, restOut as tickRest}
 use Rattle.script_play.specs.declared.Phase.{Phase}
 use Rattle.script_play.specs.declared.Next.{Next}
 use Rattle.script_play.specs.declared.Next.the-variants.{Line, Slots}

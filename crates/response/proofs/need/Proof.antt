@@ -8,7 +8,8 @@ use borrow.Author.Needs.{needs}
 use Rattle.kinds.specs.Ranges.{mostC, mostP}
 use Rattle.response.specs.declared.Row.{Row}
 use Rattle.response.specs.Need.{ceil, work, need}
-use Rattle.response.proofs.Laws.Numbers.{rowAt, Bounds, Adding, adding-none, adding-more, adding-done, rest-ranged, asked-most}
+use Rattle.response.proofs.Laws.Numbers.{rowAt, Bounds, Adding, adding-none, adding-more, adding-done, rest-ranged}
+use Rattle.response.proofs.Laws.Numbers.{asked-most}
 use Rattle.response.proofs.need.Statement.{statement}
 use Rattle.response.proofs.need.Tie as tie
 

@@ -35,13 +35,20 @@ add-trials c = omega arith
 
 returns : tie.Need-returns Inv-loop μ-loop
 unfolding response
-returns c = trying-equal _ _ _ _ _ _ (c .before .before .before .loop .inv) (c .before .before .loop-test .taken) (c .before .need .ensures) (c .if1 .taken)
+returns c =
+    let t = c .before .before in
+    trying-equal _ _ _ _ _ _ (t .before .loop .inv) (t .loop-test .taken) (c .before .need .ensures) (c .if1 .taken)
 
 loop-less : tie.Need-loop-less Inv-loop μ-loop
-loop-less c = trying-less _ _ _ _ _ _ (c .before .before .before .loop .inv) (c .before .before .loop-test .taken) (c .before .need .ensures) (c .if1 .left)
+loop-less c =
+    let t = c .before .before in
+    trying-less _ _ _ _ _ _ (t .before .loop .inv) (t .loop-test .taken) (c .before .need .ensures) (c .if1 .left)
 
 loop-again : tie.Need-loop-again Inv-loop μ-loop
-loop-again c = trying-on _ _ _ (λ a b. need-mono _ _ a b (spaced (c .before .before .before .before .before .before))) _ _ _ (c .before .before .before .loop .inv) (c .before .before .loop-test .taken) (c .before .need .ensures) (c .if1 .left)
+loop-again c =
+    let t = c .before .before in
+    trying-on _ _ _ (λ a b. need-mono _ _ a b (spaced (t .before .before .before .before))) _ _ _ (t .before .loop .inv)
+    (t .loop-test .taken) (c .before .need .ensures) (c .if1 .left)
 
 returns-2 : tie.Need-returns-2 Inv-loop μ-loop
 unfolding response

@@ -51,7 +51,8 @@ returns-2 : tie.Need-returns-2 Inv-loop μ-loop
 returns-2 c =
     let e = c .before .before .before in
     let i = e .before .before .before in
-    looking-bad-p _ _ (i .before .loop .inv) (i .loop-test .taken) (held (e .before .c-in-range .ensures) (e .if1 .left)) (refuted (c .before .p-in-range .ensures) (c .if2 .taken))
+    looking-bad-p _ _ (i .before .loop .inv) (i .loop-test .taken) (held (e .before .c-in-range .ensures) (e .if1 .left))
+    (refuted (c .before .p-in-range .ensures) (c .if2 .taken))
 
 add-at : tie.Need-add-at Inv-loop μ-loop
 add-at c = omega arith
@@ -63,7 +64,8 @@ loop-again : tie.Need-loop-again Inv-loop μ-loop
 loop-again c =
     let e = c .before .before .before in
     let i = e .before .before .before in
-    looking-more _ _ (i .before .loop .inv) (i .loop-test .taken) (held (e .before .c-in-range .ensures) (e .if1 .left)) (held (c .before .p-in-range .ensures) (c .if2 .left))
+    looking-more _ _ (i .before .loop .inv) (i .loop-test .taken) (held (e .before .c-in-range .ensures) (e .if1 .left))
+    (held (c .before .p-in-range .ensures) (c .if2 .left))
 
 returns-3 : tie.Need-returns-3 Inv-loop μ-loop
 returns-3 c = sym (looking-done _ _ (c .before .loop .inv) (c .loop-test .left))
