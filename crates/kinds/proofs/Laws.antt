@@ -5,8 +5,8 @@ use mathlib.Core.Bool.{Bool, true, false, _&&_, not, and-eq-true-iff}
 use native.Mathlib.Omega.{arith}
 use lib.Dec.{leb, eqb}
 use borrow.Author.Tests.{le-leb, leb-true, eqb-false, ne-eqb, not-true, not-false}
-use Rattle.kinds.specs.Ranges.{within, mostNode, mostHorizon, mostBuffer, mostC, mostP, mostD, mostB, inRangeNode, inRangeHorizon}
-use Rattle.kinds.specs.Ranges.{inRangeC, inRangeP, inRangeD, inRangeHops}
+use Rattle.kinds.specs.Ranges.{within, mostNode, mostHorizon, mostBuffer, mostC, mostP, mostD, mostB, inRangeNode}
+use Rattle.kinds.specs.Ranges.{inRangeHorizon, inRangeC, inRangeP, inRangeD, inRangeHops}
 use Rattle.kinds.specs.Checks.{linkPasses, channelPasses, newLink, newChannel, newRoute}
 use Rattle.kinds.specs.declared.Link.{Link}
 use Rattle.kinds.specs.declared.Channel.{Channel}

@@ -2,7 +2,8 @@
 use Prim.Native.Nat.{ℕ}
 use mathlib.Core.Bool.{Bool, true, false, _&&_, not}
 use lib.Dec.{eqb}
-use Rattle.kinds.specs.Ranges.{inRangeNode, inRangeHorizon, inRangeBuffer, inRangeC, inRangeP, inRangeD, inRangeB, inRangeHops}
+use Rattle.kinds.specs.Ranges.{inRangeNode, inRangeHorizon, inRangeBuffer, inRangeC, inRangeP, inRangeD, inRangeB}
+use Rattle.kinds.specs.Ranges.{inRangeHops}
 use Rattle.kinds.specs.declared.CheckedLink.{CheckedLink}
 use Rattle.kinds.specs.declared.CheckedLink.the-variants as link
 use Rattle.kinds.specs.declared.CheckedChannel.{CheckedChannel}

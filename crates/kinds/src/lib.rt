@@ -1,8 +1,8 @@
 // The kinds of numbers that document 01 bounds. Each range stands once, here, beside its kind. A constructor (`new`) answers the
 // value, or the refusal number of the check that failed.
 ghost use mathlib.Core.Path.{_≡_};
-ghost use Rattle.kinds.specs.Ranges.{within, inRangeLinks, inRangeRows, inRangeChannels, inRangeC};
-ghost use Rattle.kinds.specs.Ranges.{inRangeP, inRangeD, inRangeB, isSlot, isNumber};
+ghost use Rattle.kinds.specs.Ranges.{within, inRangeLinks, inRangeRows, inRangeChannels, inRangeC, inRangeP, inRangeD};
+ghost use Rattle.kinds.specs.Ranges.{inRangeB, isSlot, isNumber};
 ghost use Rattle.kinds.specs.Checks.{linkPasses, channelPasses, newLink, newChannel, newRoute};
 
 fn is_within(least: u64, most: u64, n: u64) -> bool

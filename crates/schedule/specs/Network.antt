@@ -7,8 +7,7 @@ use Rattle.schedule.specs.Feasible.{Table}
 use Rattle.schedule.specs.Lists.{_∈_}
 use Rattle.schedule.specs.Link.{Head, J, Earliest, Idle}
 use Rattle.schedule.specs.Messages.{Message}
-use Rattle.schedule.specs.Channel.{Channel, Course, rowAt, headOf, Held, Counted, Accepts, Sends, Steps}
-use Rattle.schedule.specs.Channel.{sending, accepting}
+use Rattle.schedule.specs.Channel.{Channel, Course, rowAt, headOf, Held, Counted, Accepts, Sends, Steps, sending, accepting}
 
 -- a channel at one place of its route
 pub record Key : Type 0 where

@@ -12,8 +12,8 @@ ghost use Rattle.text_decimal.specs.Put.{putAt};
 ghost use Rattle.script_listing.specs.Buffer.{lastForLine, lastForSlot};
 ghost use Rattle.script_line.specs.Line.{mostNumbers};
 ghost use Rattle.script_answer.specs.Answer.{asksOf};
-ghost use Rattle.script_play.specs.Play.{nextOf, answered, started, mostKept, linksLength, kept, counted};
-ghost use Rattle.script_play.specs.Play.{linkHeard, linksHeard, played, playedLinks, ended};
+ghost use Rattle.script_play.specs.Play.{nextOf, answered, started, mostKept, linksLength, kept, counted, linkHeard};
+ghost use Rattle.script_play.specs.Play.{linksHeard, played, playedLinks, ended};
 ghost use Rattle.script_play.specs.At.{playedAt};
 
 // How far a run has come: so many good `link` lines before set-up; running; or over, its set-up refused.

@@ -1,5 +1,4 @@
 -- Reserved packets in document 01's listing, from the definitions.
-use Prim.Native.Nat.{ℕ}
 use mathlib.Core.Path.{_≡_, refl}
 use mathlib.Core.List.{[]}
 use Rattle.store.specs.Amounts.{reservedAlong}

@@ -6,8 +6,8 @@ ghost use mathlib.Core.Path.{_≡_};
 ghost use Prim.Native.Nat.{_%_, _<_};
 ghost use Rattle.kinds.specs.Ranges.{mostChannels, mostHops};
 ghost use Rattle.store.specs.Layout.{Long, routeStart, cOf, withC, pOf, withP, dOf, withD, bOf, withB, hopsOf, withHops};
-ghost use Rattle.store.specs.Layout.{messagesOf, withMessages, routeOf, withRoute, delayOf, withDelay, sentOf};
-ghost use Rattle.store.specs.Layout.{withSent, timeOf, withTime, endOf, withEnd, ring, placeBefore, cleared, recordLength};
+ghost use Rattle.store.specs.Layout.{messagesOf, withMessages, routeOf, withRoute, delayOf, withDelay, sentOf, withSent};
+ghost use Rattle.store.specs.Layout.{timeOf, withTime, endOf, withEnd, ring, placeBefore, cleared, recordLength};
 
 // Every number of its record is 0.
 pub fn clear(store: &mut [u64], x: usize)

@@ -4,9 +4,8 @@ use super::RECORD;
 ghost use mathlib.Core.Path.{_≡_};
 ghost use Prim.Native.Nat.{_<_};
 ghost use Rattle.kinds.specs.Ranges.{mostLinks, mostRows};
-ghost use Rattle.store.specs.Layout.{Long, fromOf, withFrom, toOf, withTo, horizonOf, withHorizon, bufferOf};
-ghost use Rattle.store.specs.Layout.{withBuffer, rowsOf, withRows, rowChannelOf, withRowChannel, rowPlaceOf};
-ghost use Rattle.store.specs.Layout.{withRowPlace};
+ghost use Rattle.store.specs.Layout.{Long, fromOf, withFrom, toOf, withTo, horizonOf, withHorizon, bufferOf, withBuffer};
+ghost use Rattle.store.specs.Layout.{rowsOf, withRows, rowChannelOf, withRowChannel, rowPlaceOf, withRowPlace};
 
 pub fn from(store: &[u64], l: usize) -> u64
     requires { ⌜ Long (now store) ⌝ }

@@ -10,12 +10,11 @@ use lib.Dec.{leb}
 use mir.Syntax.{w64}
 use mir.Val.{Fits}
 use borrow.Author.Tests.{lt-ltb, le-leb, lt-leb}
-use Rattle.store.specs.Ranged.{mostReserved}
+use Rattle.store.specs.Ranged.{mostReserved, Ranged, Fit}
 use Rattle.kinds.specs.Ranges.{mostChannels, mostRows, mostHops}
 use Rattle.store.specs.Layout.{Store, bufferOf, rowsOf, rowChannelOf, rowPlaceOf, pOf, hopsOf, delayOf, sentOf, IsChannel}
 use Rattle.store.specs.Amounts.{reservedOf, enteredOf, heldOf, reservedAlong}
 use Rattle.store.specs.Sound.{rowStands, rowDelayOf, rowFollows, rowReservedOf, rowHolds, rowSound, rowsSound}
-use Rattle.store.specs.Ranged.{Ranged, Fit}
 use Rattle.folds.proofs.Folds.{Passing, passing-none, passing-more, passing-done, every-false}
 use Rattle.folds.proofs.Adding.{Adding, adding-none, adding-more, adding-fits, adding-done}
 use Rattle.store.proofs.Laws.Amounts.{first-most, later-most}
