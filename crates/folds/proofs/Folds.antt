@@ -71,7 +71,8 @@ module _ (f : ℕ → Bool) where
   unfolding firstNot
   first-at zero i e h l = absurd (omega arith)
   first-at (suc n) i e h l =
-      below i n l (λ k. rw (every-false n i k h, firstNot) (first-at n i e h k)) (λ s. rw (rw s at e, rw s at h, firstNot) (sym s))
+      below i n l (λ k. rw (every-false n i k h, firstNot) (first-at n i e h k))
+      (λ s. rw (rw s at e, rw s at h, firstNot) (sym s))
 
   pub first-end : (n : ℕ) → every f n ≡ true → firstNot f n ≡ n
   unfolding every firstNot

@@ -85,7 +85,8 @@ module _ (from to horizon buffer : ℕ) where
 
   pub bounds-link : GoodLink from to horizon buffer → linkPasses from to horizon buffer ≡ true
   bounds-link g =
-      rw (le-leb from mostNode (g .from-most), le-leb to mostNode (g .to-most), ne-eqb from to (g .differ), le-leb horizon mostHorizon (g .horizon-most))
+      let nodes = le-leb to mostNode (g .to-most) in
+      rw (le-leb from mostNode (g .from-most), nodes, ne-eqb from to (g .differ), le-leb horizon mostHorizon (g .horizon-most))
       (true-within 1 mostBuffer buffer (g .buffer-least) (g .buffer-most))
 
   pub link-good : linkPasses from to horizon buffer ≡ true
@@ -138,7 +139,9 @@ module _ (c p d b : ℕ) where
 
   pub bounds-channel : GoodChannel c p d b → channelPasses c p d b ≡ true
   bounds-channel g =
-      rw (true-within 1 mostC c (g .c-least) (g .c-most), true-within 1 mostP p (g .p-least) (g .p-most), true-within 1 mostD d (g .d-least) (g .d-most))
+      let in-c = true-within 1 mostC c (g .c-least) (g .c-most) in
+      let in-p = true-within 1 mostP p (g .p-least) (g .p-most) in
+      rw (in-c, in-p, true-within 1 mostD d (g .d-least) (g .d-most))
       (true-within 1 mostB b (g .b-least) (g .b-most))
 
   pub channel-good : channelPasses c p d b ≡ true → channel.Good (record { c = c; p = p; d = d; b = b }) ≡ newChannel c p d b

@@ -21,7 +21,8 @@ fn next(store: &[u64], x: usize, j: usize) -> Found
     requires { ⌜ Long (now store) ⌝ }
     requires { ⌜ x < mostChannels ⌝ }
     requires { ⌜ j < mostHops ⌝ }
-    ensures { λ r. ⌜ r ≡ record { number = messageOf (now (store .entry)) x j; place = messageOf (now (store .entry)) x j % ring } ⌝ }
+    ensures { λ r. ⌜ r
+        ≡ record { number = messageOf (now (store .entry)) x j; place = messageOf (now (store .entry)) x j % ring } ⌝ }
 {
     let sent = channel::sent(store, x, j);
     let mut n = channel::messages(store, x);

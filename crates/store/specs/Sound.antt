@@ -29,7 +29,8 @@ linkFits w l = linkPasses (fromOf w l) (toOf w l) (horizonOf w l) (bufferOf w l)
 -- "its channels pass 1 to 5"
 abbrev pub channelFits : Store → (x : ℕ) → Bool
 channelFits w x =
-    channelPasses (cOf w x) (pOf w x) (dOf w x) (bOf w x) && (inRangeHops (hopsOf w x) && routePasses w (routeOf w x) (hopsOf w x))
+    channelPasses (cOf w x) (pOf w x) (dOf w x) (bOf w x)
+    && (inRangeHops (hopsOf w x) && routePasses w (routeOf w x) (hopsOf w x))
 
 -- "delays 1 to p"; and, of the counts: no more has been sent at a place than has come to it
 abbrev pub placeFits : Store → (x j : ℕ) → Bool

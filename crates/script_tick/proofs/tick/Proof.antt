@@ -1,4 +1,5 @@
--- `script_tick::tick` meets its contract. The loop's invariant: what stands in the buffer so far and what is still to come are the tick.
+-- `script_tick::tick` meets its contract. The loop's invariant: what stands in the buffer so far and what is still to come are
+-- the tick.
 use native.Mathlib.Omega.{arith}
 use borrow.Author.Needs.{needs}
 use Rattle.script_tick.proofs.Ticking.{Ticking, ticking-none, ticking-more, ticking-full, ticking-done}
