@@ -14,6 +14,7 @@ use Rattle.open_rules.specs.Request.{Request, hops}
 use Rattle.open_rules.specs.Asked.{asking}
 use Rattle.open_rules.specs.Refusal.{earlyChecks}
 use Rattle.open_rules.specs.Open.{openOutcome}
+use Rattle.open.specs.Passed.{Passed}
 use Rattle.open.proofs.Outcome.{early-refused}
 
 -- what `open_checks::early` answers
@@ -44,7 +45,9 @@ module _ (w : Store) (q : Request) {x : ℕ} {a : Channel} {r : Route} (e : chec
   pub passed-asks : asking a (q .route) ≡ q
   passed-asks = rw asked
 
-  -- what may be relied on from here on
-  pub passed-early : (firstFailed Refused (earlyChecks w (asking a (q .route))) (Accepted x) ≡ Accepted x)
-      × ((x ≡ channelsOf w) × (r .hops ≡ hops q))
-  passed-early = (rw passed-asks (all-passed Refused (earlyChecks w q) (Accepted x) holds), (cc (same), cc (same)))
+  pub passed-on : Passed w x a r (q .route)
+  passed-on = record {
+    early = rw passed-asks (all-passed Refused (earlyChecks w q) (Accepted x) holds);
+    number = cc (same);
+    hops-are = cc (same);
+  }

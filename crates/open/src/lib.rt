@@ -6,13 +6,9 @@ use open_checks::Checked;
 use open_rules::Opening;
 use open_rules::Outcome;
 ghost use mathlib.Core.Path.{_≡_};
-ghost use lib.ListN.{length};
-ghost use Rattle.store.specs.Layout.{channelsOf};
-ghost use Rattle.checks.specs.Checks.{firstFailed};
-ghost use Rattle.open_rules.specs.declared.Outcome.the-variants.{Accepted, Refused};
 ghost use Rattle.open_rules.specs.Asked.{asking};
-ghost use Rattle.open_rules.specs.Refusal.{earlyChecks};
 ghost use Rattle.open_rules.specs.Open.{refusal, openAnswer, openStore};
+ghost use Rattle.open.specs.Passed.{Passed};
 
 // A refusal: 0 beside it.
 fn refused(number: u64, place: u64) -> Opening
@@ -28,9 +24,7 @@ fn refused(number: u64, place: u64) -> Opening
 
 // The answer to an open that has passed the checks before the search: checks 8 to 10, and the numbers of each link.
 fn late(store: &[u64], x: usize, asked: Channel, way: Route, route: &[u64]) -> Opening
-    requires { ⌜ firstFailed Refused (earlyChecks (now store) (asking asked (now route))) (Accepted x) ≡ Accepted x ⌝ }
-    requires { ⌜ x ≡ channelsOf (now store) ⌝ }
-    requires { ⌜ way .hops ≡ length (now route) ⌝ }
+    requires { ⌜ Passed (now store) x asked way (now route) ⌝ }
     ensures { λ r. ⌜ r ≡ openAnswer (now (store .entry)) (asking asked (now (route .entry))) ⌝ }
 {
     let hops = way.hops;
@@ -70,9 +64,7 @@ pub fn answer(store: &[u64], c: u64, p: u64, d: u64, b: u64, route: &[u64]) -> O
 
 // The same, and a yes is written.
 fn granted(store: &mut [u64], x: usize, asked: Channel, way: Route, route: &[u64]) -> Opening
-    requires { ⌜ firstFailed Refused (earlyChecks (now store) (asking asked (now route))) (Accepted x) ≡ Accepted x ⌝ }
-    requires { ⌜ x ≡ channelsOf (now store) ⌝ }
-    requires { ⌜ way .hops ≡ length (now route) ⌝ }
+    requires { ⌜ Passed (now store) x asked way (now route) ⌝ }
     ensures { λ r. ⌜ r ≡ openAnswer (now (store .entry)) (asking asked (now (route .entry))) ⌝ }
     ensures { λ _. ⌜ now (store .exit) ≡ openStore (now (store .entry)) (asking asked (now (route .entry))) ⌝ }
 {

@@ -34,7 +34,7 @@ accepted : (c : tie.After-enum-told)
 accepted c =
     let t = c .before .before in
     let a = sym (outcome t) ∙ c .enum-told .given .1 in
-    a ∙ ap Accepted (accepted-number (store t) (request t) _ a ∙ sym (start t .pre .1 .0))
+    a ∙ ap Accepted (accepted-number (store t) (request t) _ a ∙ sym (start t .pre .number))
 
 late-requires : tie.Need-late-requires
 late-requires c κs = search needs
@@ -46,9 +46,9 @@ enter-requires : tie.Need-enter-requires
 enter-requires c κs =
     let t = c .before .before .before .before .before in
     let s = start t in
-    rw (s .pre .1 .0)
+    rw (s .pre .number)
     (early-enterable (store t) (request t)
-    (early-is (store t) (request t) (accepted-all Refused _ _ _ (refused-accepted _) (s .pre .0))))
+    (early-is (store t) (request t) (accepted-all Refused _ _ _ (refused-accepted _) (s .pre .early))))
 
 enum-told-2 : tie.Need-enum-told-2
 enum-told-2 c = search needs

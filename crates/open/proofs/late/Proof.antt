@@ -33,10 +33,10 @@ request s = asking (s .args .asked) (s .args .route .now)
 
 -- 17, 14 and 1 to 7 are passed, and the route has as many links as was checked
 early : (s : tie.Start) → AllHold (earlyChecks (store s) (request s))
-early s = accepted-all Refused _ _ _ (refused-accepted _) (s .pre .0)
+early s = accepted-all Refused _ _ _ (refused-accepted _) (s .pre .early)
 
 hops-are : (s : tie.Start) → s .args .way .hops ≡ hops (request s)
-hops-are s = s .pre .1 .1
+hops-are s = s .pre .hops-are
 
 -- 8 is passed, and here are the responses
 abbrev start-8 : tie.Else1 → tie.Start
@@ -193,7 +193,7 @@ returns-4 c =
     let re = r .before .reserved .ensures in
     let past : hops q ≤ c .before .full-link .result = rw (hops-are s) at (c .if3 .left) in
     let late = past-10 w q (found b) a _ (given d) _ re (nine (back-d d)) _ (c .before .full-link .ensures) past in
-    accepted-is w q (s .pre .1 .0)
+    accepted-is w q (s .pre .number)
     (all-accepted w q (a .early) (all-late w q (a .early) late))
     (a .are)
     (delays-are w q (found b) a _ (given d))
