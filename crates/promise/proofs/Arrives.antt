@@ -1,34 +1,39 @@
 -- What was sent was sent in time, and every accepted message arrives.
 use Prim.Native.Nat.{ℕ, suc, _-_, _<_}
-use mathlib.Core.Path.{_≡_, _∙_, sym, subst}
-use mathlib.Core.List.{List, _∷_, List·Memᴰ·head, List·Memᴰ·tail}
+use mathlib.Core.Path.{_≡_, _∙_, sym}
+use mathlib.Core.List.{List}
 use native.Mathlib.Omega.{arith}
 use Rattle.schedule.specs.Lists.{Every, _∈_}
-use Rattle.store.specs.Layout.{Store, hopsOf, routeOf}
+use Rattle.store.specs.Layout.{Store, hopsOf}
 use Rattle.promise_queue.specs.Queue.{endAfter}
 use Rattle.promise_queue.specs.Keep.{keep}
 use Rattle.slot_rules.specs.Slot.{Send}
 use Rattle.promise_sends.proofs.Arrived.{sent-early, arrived}
 use Rattle.promise_sends.specs.Sends.{isMessage}
-use Rattle.promise.specs.Promise.{Event, sendsOn, deadlineAt, Arrives}
-use Rattle.promise.specs.Promise.Event.{accepted}
+use Rattle.promise.specs.Calls.{Event}
+use Rattle.promise.specs.Calls.Event.{accepted}
+use Rattle.promise.specs.Happened.{WasOpened, places, sendsAt, deadlineAt}
+use Rattle.promise.specs.Promise.{Arrives}
 use Rattle.promise.proofs.History.{messagesIn}
-use Rattle.promise.proofs.Invariant.{Invariant, IsMessage}
+use Rattle.promise.proofs.Invariant.{Invariant, IsMessage, as-opened, is-message}
+use Rattle.promise.proofs.Opened.{known, own, inside, link-is, deadline-is}
 use Rattle.promise.proofs.Offer.{names-of}
 
-pub every-in : {A : Type 0} (P : A → Type 0) (xs : List A) → Every P xs → (u : A) → u ∈ xs → P u
-every-in P (y ∷ xs) e u (List·Memᴰ·head same) = subst P (sym same) (e .0)
-every-in P (y ∷ xs) e u (List·Memᴰ·tail m) = every-in P xs (e .1) u m
+module _ {links : List ℕ} {w : Store} {h : List Event} (i : Invariant links w h) where
+  pub sent-in-time : (x : ℕ) (o : WasOpened h x) (j : ℕ) → j < places o → (m l k : ℕ) → accepted x m l k ∈ h
+      → Every (λ (u : Send). u .slot < deadlineAt o j l) (keep (isMessage m) (sendsAt o j))
+  sent-in-time x o j here m l k there =
+      let e : IsMessage w (messagesIn h) x m l k = is-message i x m l k there in
+      rw (deadline-is i o j l here, link-is i o j here) (rw (e .time) at (sent-early (i .logged) x j m (inside i o j here)))
 
-pub sent-in-time : {w : Store} {h : List Event} → Invariant w h → (x j m l k : ℕ) → accepted x m l k ∈ h → j < hopsOf w x
-    → Every (λ (u : Send). u .slot < deadlineAt w h x j l) (keep (isMessage m) (sendsOn h x (routeOf w x j)))
-sent-in-time {w} {h} i x j m l k there inside =
-    let e : IsMessage w (messagesIn h) x m l k = every-in _ h (i .events) (accepted x m l k) there in
-    rw (e .time) at (sent-early (i .logged) x j m inside)
-
-pub arrives : {w : Store} {h : List Event} → Invariant w h → Arrives w h
-arrives {w} {h} i x m l k there past =
-    let e : IsMessage w (messagesIn h) x m l k = every-in _ h (i .events) (accepted x m l k) there in
-    let size : endAfter (messagesIn h x) (suc m) - endAfter (messagesIn h x) m ≡ k = omega (arith, e .size) in
-    let a = arrived (i .seen) (i .steady) (i .within) (i .logged) x m (e .channel) (e .inside) (omega (arith, e .time)) in
-    (a .0 ∙ (rw size (sym (names-of m l k))), rw (e .time) at (a .1))
+  pub arrives : Arrives links w h
+  arrives x m l k there =
+      let e : IsMessage w (messagesIn h) x m l k = is-message i x m l k there in
+      let size : endAfter (messagesIn h x) (suc m) - endAfter (messagesIn h x) m ≡ k = omega (arith, e .size) in
+      (i .known x (e .channel), λ o past.
+      let same : hopsOf w x ≡ places o = as-opened i x o .hops-are in
+      let last : places o - 1 < places o = omega (arith, own i o .hops-least) in
+      let d = as-opened i x o .d-is in
+      let a = arrived (i .seen) (i .steady) (i .within) (i .logged) x m (known i o) (e .inside) (omega (arith, e .time, d)) in
+      rw (link-is i o (places o - 1) last, ← same, ← d)
+      (a .0 ∙ (rw size (sym (names-of m l k))), rw (e .time) at (a .1)))

@@ -11,8 +11,9 @@ use Rattle.open_rules.specs.declared.Opening.{Opening}
 use Rattle.open_rules.specs.Request.{Request}
 use Rattle.promise_queue.proofs.More.{Longer}
 use Rattle.promise_view.specs.View.{Accepted}
-use Rattle.promise.specs.Promise.{Event, AsOpened}
-use Rattle.promise.specs.Promise.Event.{opened, accepted, sent}
+use Rattle.promise.specs.Calls.{Event}
+use Rattle.promise.specs.Promise.{AsOpened}
+use Rattle.promise.specs.Calls.Event.{opened, accepted, sent}
 use Rattle.promise.proofs.Invariant.{IsMessage, EventIs}
 
 module _ {w w′ : Store} {all all′ : Accepted} (same : (x : ℕ) → IsChannel w x → SameNumbers w w′ x)

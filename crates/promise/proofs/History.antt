@@ -11,8 +11,10 @@ use borrow.Author.Tests.{eq-eqb, ne-eqb}
 use Rattle.schedule.specs.Messages.{Message, ended}
 use Rattle.slot_rules.specs.Slot.{Send}
 use Rattle.promise_queue.specs.Queue.{timeAt}
-use Rattle.promise.specs.Promise.{Event, packetsOf, packetsIn, timesIn, sendsIn, ownTime}
-use Rattle.promise.specs.Promise.Event.{opened, accepted, sent}
+use Rattle.promise.specs.Calls.{Event}
+use Rattle.promise.specs.Happened.{packetsOf, packetsIn, timesIn, sendsIn}
+use Rattle.promise.specs.Promise.{ownTime}
+use Rattle.promise.specs.Calls.Event.{opened, accepted, sent}
 
 -- the messages accepted on channel x, those before them having `base` packets
 unfoldable pub messagesFrom : (base : ℕ) → List Event → (x : ℕ) → List Message

@@ -3,16 +3,19 @@ use Prim.Native.Nat.{ℕ, suc, _+_, _<_}
 use mathlib.Core.Path.{_≡_}
 use mathlib.Core.List.{List, _++_, map, Memᴰ·append-left}
 use lib.ListN.{length}
-use Rattle.schedule.specs.Lists.{Every}
+use Rattle.schedule.specs.Lists.{Every, _∈_}
 use Rattle.schedule.specs.Messages.{Message}
 use Rattle.store.specs.Layout.{Store, IsChannel}
 use Rattle.promise_queue.specs.Queue.{timeAt, endAfter, packetsFrom}
 use Rattle.promise_view.specs.View.{Accepted}
 use Rattle.promise_view.proofs.Seen.{Seen, Steady, Near, InBurst, Within}
 use Rattle.promise_sends.specs.Log.{Logged}
-use Rattle.promise.specs.Promise.{Event, Packet, packetsIn, sendsIn, nameOf, AsOpened, WasOpened}
-use Rattle.promise.specs.Promise.Event.{opened, accepted, sent}
+use Rattle.promise.specs.Calls.{Event}
+use Rattle.promise.specs.Happened.{Packet, nameOf, packetsIn, sendsIn, WasOpened}
+use Rattle.promise.specs.Promise.{AsSetUp, AsOpened}
+use Rattle.promise.specs.Calls.Event.{opened, accepted, sent}
 use Rattle.promise.proofs.History.{messagesIn}
+use Rattle.promise.proofs.Packets.{every-in}
 
 -- an accepted message is one of its channel's
 pub record IsMessage (w : Store) (all : Accepted) (x message logical packets : ℕ) : Type 0 where
@@ -31,7 +34,9 @@ EventIs w all (sent y) = Unit {0}
 abbrev pub Timed : List Message → Packet → Type 0
 Timed ms y = (y .message < length ms) × (y .logical ≡ timeAt ms (y .message))
 
-pub record Invariant (w : Store) (h : List Event) : Type 0 where
+pub record Invariant (links : List ℕ) (w : Store) (h : List Event) : Type 0 where
+  -- the network is the one that was set up
+  pub network : AsSetUp links w
   -- the store is sound, every link's rows are feasible, and the store tells of the messages that were accepted
   pub seen : Seen w (messagesIn h)
   -- J for every link
@@ -52,3 +57,12 @@ pub record Invariant (w : Store) (h : List Event) : Type 0 where
 -- what has happened has happened
 pub still-opened : (h more : List Event) (x : ℕ) → WasOpened h x → WasOpened (h ++ more) x
 still-opened h more x o = record { request = o .request; answer = o .answer; there = Memᴰ·append-left more (o .there) }
+
+-- what the store says of a thing that has happened
+module _ {links : List ℕ} {w : Store} {h : List Event} (i : Invariant links w h) (x : ℕ) where
+  pub as-opened : (o : WasOpened h x) → AsOpened w x (o .request) (o .answer)
+  as-opened o = every-in _ h (i .events) _ (o .there)
+
+  pub is-message : (message logical packets : ℕ) → accepted x message logical packets ∈ h
+      → IsMessage w (messagesIn h) x message logical packets
+  is-message message logical packets m = every-in _ h (i .events) _ m

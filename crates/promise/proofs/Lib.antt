@@ -1,6 +1,9 @@
 mod History
 mod Packets
+mod Network
 mod Invariant
+mod Opened
+mod Next
 mod Holds
 mod Events
 mod Open
@@ -8,5 +11,7 @@ mod Offer
 mod Slot
 mod Own
 mod Arrives
+mod Skip
+mod Picked
+mod Slots
 pub mod Promise
-pub mod Skip

@@ -10,7 +10,7 @@ use Rattle.schedule.specs.Messages.{Message, ended}
 use Rattle.schedule.proofs.Lists.{every-append, every-imp}
 use Rattle.store.specs.Layout.{Store}
 use Rattle.store.specs.Amounts.{acceptedOf}
-use Rattle.store_same.proofs.Settled.{channels-same}
+use Rattle.store_same.proofs.Settled.{channels-same, network-same}
 use Rattle.offer_rules.specs.declared.Offered.the-variants.{Accepted}
 use Rattle.offer_rules.specs.Offer.{offered, offerAnswer, offerStore}
 use Rattle.promise_queue.specs.Queue.{packetsFrom, packetsOf as namesOf}
@@ -25,10 +25,12 @@ use Rattle.promise_offer.proofs.Steady.{offer-steady}
 use Rattle.promise_offer.proofs.Near.{offer-near, offer-in-burst, offer-within}
 use Rattle.promise_offer.proofs.Answer.{AcceptedIs, accepted-is}
 use Rattle.promise_sends.proofs.Offer.{offer-logged}
-use Rattle.promise.specs.Promise.{Event, Packet, packetsOf, packetsIn, sendsIn, nameOf}
-use Rattle.promise.specs.Promise.Event.{accepted}
+use Rattle.promise.specs.Calls.{Event}
+use Rattle.promise.specs.Happened.{Packet, packetsOf, packetsIn, sendsIn, nameOf}
+use Rattle.promise.specs.Calls.Event.{accepted}
 use Rattle.store_same.proofs.Numbers.{settled-numbers}
 use Rattle.promise.proofs.History.{messagesIn, messages-same, messages-new, packets-same, packets-new, sends-on}
+use Rattle.promise.proofs.Network.{network-kept}
 use Rattle.promise.proofs.Invariant.{Invariant, IsMessage, EventIs, Timed, still-opened}
 use Rattle.promise.proofs.Events.{events-stay}
 
@@ -47,7 +49,7 @@ logicals-of P m l (suc k) f =
     every-append P (packetsOf m l k) (record { message = m; packet = k; logical = l } ∷ []) (logicals-of P m l k f)
     (f _ refl refl, tt)
 
-module _ {w : Store} {h : List Event} (i : Invariant w h) (x packets n time : ℕ)
+module _ {links : List ℕ} {w : Store} {h : List Event} (i : Invariant links w h) (x packets n time : ℕ)
     (a : offerAnswer w x packets ≡ Accepted n time) where
   abbrev one : List Event
   one = accepted x n time packets ∷ []
@@ -132,8 +134,9 @@ module _ {w : Store} {h : List Event} (i : Invariant w h) (x packets n time : �
         (rw (accepted-count (i .seen .told x (p .known)))));
   }
 
-  pub offer-keeps : Invariant (offerStore w x packets) (h ++ (accepted x n time packets ∷ []))
+  pub offer-keeps : Invariant links (offerStore w x packets) (h ++ (accepted x n time packets ∷ []))
   offer-keeps = rw (is .store-is) (record {
+    network = network-kept (i .seen .sound .counts .links-most) (network-same (offer-settled (i .seen .sound) p)) (i .network);
     seen = offer-seen (i .seen) p adds (i .steady) (i .burst);
     steady = offer-steady (i .seen) p adds (i .steady);
     near = offer-near (i .seen) p adds (i .near);

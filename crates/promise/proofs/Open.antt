@@ -21,17 +21,21 @@ use Rattle.promise_open.proofs.Steady.{open-steady}
 use Rattle.promise_open.proofs.Bounds.{open-near, open-in-burst, open-within}
 use Rattle.promise_sends.proofs.Open.{none-logged, open-logged}
 use Rattle.promise_queue.proofs.More.{as-long}
-use Rattle.promise.specs.Promise.{Event, packetsIn, sendsIn, AsOpened}
-use Rattle.promise.specs.Promise.Event.{opened}
+use Rattle.promise.specs.Calls.{Event}
+use Rattle.promise.specs.Happened.{packetsIn, sendsIn}
+use Rattle.promise.specs.Promise.{AsOpened}
+use Rattle.promise.specs.Calls.Event.{opened}
 use Rattle.store_same.proofs.Same.{Keeps}
 use Rattle.store_same.proofs.Numbers.{kept-numbers}
 use Rattle.promise.proofs.History.{messagesFrom, messagesIn, messages-same, packets-same, sends-on}
+use Rattle.promise.proofs.Network.{network-made, network-kept}
 use Rattle.promise.proofs.Invariant.{Invariant, EventIs, still-opened}
 use Rattle.promise.proofs.Events.{events-stay}
 
-pub set-up-makes : (w : Store) (links : List ℕ) → setUpAnswer w links ≡ Ready → Invariant (setUpStore w links) []
+pub set-up-makes : (w : Store) (links : List ℕ) → setUpAnswer w links ≡ Ready → Invariant links (setUpStore w links) []
 unfolding messagesFrom packetsIn sendsIn packetsFrom
 set-up-makes w links e = record {
+  network = network-made w links e;
   seen = fresh-seen w links e;
   steady = fresh-steady w links e;
   near = fresh-near w links e;
@@ -44,7 +48,8 @@ set-up-makes w links e = record {
   known = λ x k. absurd (omega (arith, fresh-channels w links e));
 }
 
-module _ {w : Store} {h : List Event} (i : Invariant w h) (q : Request) (n : ℕ) (a : openOutcome w q ≡ Accepted n) where
+module _ {links : List ℕ} {w : Store} {h : List Event} (i : Invariant links w h) (q : Request) (n : ℕ)
+    (a : openOutcome w q ≡ Accepted n) where
   abbrev w′ : Store
   w′ = openStore w q
 
@@ -78,8 +83,9 @@ module _ {w : Store} {h : List Event} (i : Invariant w h) (q : Request) (n : ℕ
     reserved-is = λ j l. rw (a, eight-at (reservedFor w q) (hops q) j l (g .hops-most)) (g .reserved-is j l);
   }
 
-  pub open-keeps : Invariant (openStore w q) (h ++ (opened n q (openAnswer w q) ∷ []))
+  pub open-keeps : Invariant links (openStore w q) (h ++ (opened n q (openAnswer w q) ∷ []))
   open-keeps = record {
+    network = network-kept (i .seen .sound .counts .links-most) (g .network) (i .network);
     seen = rw same-messages (open-seen (i .seen) q n a);
     steady = rw same-messages (open-steady (i .seen) q n a (i .steady));
     near = rw same-messages (open-near (i .seen) q n a (i .near));

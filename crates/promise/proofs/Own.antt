@@ -19,12 +19,14 @@ use Rattle.open_rules.specs.Request.{Request}
 use Rattle.offer_rules.specs.Offer.{offerTime, inBurst, offered, offerAnswer}
 use Rattle.promise_offer.proofs.Time.{offer-time-first, offer-time-next}
 use Rattle.promise_offer.proofs.Seen.{offer-sound}
-use Rattle.promise.specs.Promise.{Event, timesIn, ownTime, ownAnswer, AsOpened}
+use Rattle.promise.specs.Calls.{Event}
+use Rattle.promise.specs.Happened.{timesIn}
+use Rattle.promise.specs.Promise.{ownTime, ownAnswer, AsOpened}
 use Rattle.promise.proofs.History.{messagesIn, times-are, own-first, own-next}
 use Rattle.promise.proofs.Invariant.{Invariant}
 
-module _ {w : Store} {h : List Event} (i : Invariant w h) (x : ℕ) (q : Request) (answer : Opening) (o : AsOpened w x q answer)
-    (packets : ℕ) where
+module _ {links : List ℕ} {w : Store} {h : List Event} (i : Invariant links w h) (x : ℕ) (q : Request) (answer : Opening)
+    (o : AsOpened w x q answer) (packets : ℕ) where
   abbrev ms : List Message
   ms = messagesIn h x
 

@@ -1,19 +1,24 @@
 -- A channel's packets by number: what has happened, as crate `promise_queue` has it.
 use Prim.Native.Nat.{ℕ, zero, suc, _-_, _≤_, _<_}
-use mathlib.Core.Path.{_≡_, refl, ap, _∙_, sym}
-use mathlib.Core.List.{List, [], _∷_, _++_, map}
+use mathlib.Core.Path.{_≡_, refl, ap, _∙_, sym, subst}
+use mathlib.Core.List.{List, [], _∷_, _++_, map, List·Memᴰ·head, List·Memᴰ·tail}
 use native.Mathlib.Omega.{arith}
 use native.Mathlib.Decide.{decLt}
 use lib.ListN.{length, getD, take, drop, length-map, List·getD-map}
 use lib.Seq.{take-suc}
-use Rattle.schedule.specs.Lists.{Every}
+use Rattle.schedule.specs.Lists.{Every, _∈_}
 use Rattle.schedule.specs.Messages.{Message, Orderly, ended}
 use Rattle.schedule.proofs.Lists.{same-at}
 use Rattle.promise_queue.specs.Queue.{endAfter, passed, packetsFrom}
 use Rattle.promise_queue.proofs.Ends.{end-all}
 use Rattle.promise_queue.proofs.Few.{passed-end, passed-next}
 use Rattle.promise_queue.proofs.Packets.{packets-length, packet-next}
-use Rattle.promise.specs.Promise.{Packet, nameOf}
+use Rattle.promise.specs.Happened.{Packet, nameOf}
+
+-- what holds of each
+pub every-in : {A : Type 0} (P : A → Type 0) (xs : List A) → Every P xs → (u : A) → u ∈ xs → P u
+every-in P (y ∷ xs) e u (List·Memᴰ·head same) = subst P (sym same) (e .0)
+every-in P (y ∷ xs) e u (List·Memᴰ·tail m) = every-in P xs (e .1) u m
 
 -- what holds of each from number a up to number b
 pub every-between : {A : Type 0} (P : A → Type 0) (d : A) (xs : List A) (a b : ℕ)
@@ -36,6 +41,27 @@ pub every-get : {A : Type 0} (P : A → Type 0) (d : A) (xs : List A) → Every 
 every-get P d [] e i h = absurd (omega arith)
 every-get P d (y ∷ xs) e zero h = e .0
 every-get P d (y ∷ xs) e (suc i) h = every-get P d xs (e .1) i (omega arith)
+
+-- one of those has such a number
+pub record NumberIs {A : Type 0} (d : A) (xs : List A) (a b : ℕ) (y : A) : Type 0 where
+  pub number : ℕ
+  pub least : a ≤ number
+  pub most : number < b
+  pub inside : number < length xs
+  pub is : y ≡ getD xs number d
+
+pub number-in : {A : Type 0} (d : A) (xs : List A) (a b : ℕ) (y : A) → y ∈ drop a (take b xs) → NumberIs d xs a b y
+number-in d xs a b y m =
+    every-in (NumberIs d xs a b) (drop a (take b xs))
+    (every-between (NumberIs d xs a b) d xs a b
+    (λ i h k l. record { number = i; least = h; most = k; inside = l; is = refl })) y m
+
+-- and number a is the first of them
+pub first-in : {A : Type 0} (d : A) (xs : List A) (a b : ℕ) → a < b → a < length xs → getD xs a d ∈ drop a (take b xs)
+first-in d [] a b h k = absurd (omega arith)
+first-in d (y ∷ xs) a zero h k = absurd (omega arith)
+first-in d (y ∷ xs) zero (suc b) h k = List·Memᴰ·head refl
+first-in d (y ∷ xs) (suc a) (suc b) h k = first-in d xs a b (omega arith) (omega arith)
 
 -- Packet number y is of message n.
 pub record Of (ms : List Message) (y n : ℕ) : Type 0 where

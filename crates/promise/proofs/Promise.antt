@@ -1,7 +1,7 @@
--- The theorem: whatever calls come in whatever order, all that specs/Promise.antt promises holds. Set-up makes the invariant,
--- each call keeps it, and each statement follows from it.
+-- The theorem: our library keeps all that specs/Promise.antt promises, whatever calls come in whatever order. Set-up makes the
+-- invariant, each call keeps it, and each statement follows from it.
 use Prim.Native.Nat.{ℕ}
-use mathlib.Core.Path.{_≡_, refl}
+use mathlib.Core.Path.{_≡_, refl, sym}
 use mathlib.Core.List.{List, _++_, map, append-nil}
 use native.Mathlib.Omega.{arith}
 use Rattle.store.specs.Layout.{Store}
@@ -20,54 +20,54 @@ use Rattle.open.proofs.Laws.{never-17 as open-never}
 use Rattle.promise_open.proofs.Granted.{refused-store as refused-open}
 use Rattle.promise_offer.proofs.Answer.{never-17 as offer-never}
 use Rattle.promise_slot.proofs.Never.{never-17 as slot-never}
-use Rattle.promise.specs.Promise.{Call, Event, storeAfter, eventsIn, openEvents, offerEvents, Reached, Never17, Promise}
-use Rattle.promise.specs.Promise.Event.{sent}
-use Rattle.promise.specs.Promise.Call.{opens, offers, runs}
-use Rattle.promise.specs.Promise.Reached.{fresh, next}
-use Rattle.promise.proofs.Invariant.{Invariant}
+use Rattle.promise.specs.Calls.{ours, Call, Event, storeAfter, eventsIn, openEvents, offerEvents, Reached}
+use Rattle.promise.specs.Promise.{Never17, Promise, Keeps}
+use Rattle.promise.specs.Calls.Event.{sent}
+use Rattle.promise.specs.Calls.Call.{opens, offers, runs, skips}
+use Rattle.promise.specs.Calls.Reached.{fresh, next}
+use Rattle.promise.proofs.Invariant.{Invariant, as-opened}
+use Rattle.promise.proofs.Opened.{sends-count}
 use Rattle.promise.proofs.Holds.{held-in-time, never-over, in-order, conserved}
 use Rattle.promise.proofs.Open.{set-up-makes, open-keeps}
 use Rattle.promise.proofs.Offer.{offer-keeps}
-use Rattle.promise.proofs.Slot.{slot-keeps}
+use Rattle.promise.proofs.Slot.{slot-call}
+use Rattle.promise.proofs.Skip.{skip-keeps}
+use Rattle.promise.proofs.Slots.{slots}
 use Rattle.promise.proofs.Own.{own-answer}
-use Rattle.promise.proofs.Arrives.{every-in, sent-in-time, arrives}
+use Rattle.promise.proofs.Arrives.{sent-in-time, arrives}
 
 refused-offer : (w : Store) (x packets number place : ℕ) → offerAnswer w x packets ≡ Refused number place
     → offerStore w x packets ≡ w
 unfolding offerStore
 refused-offer w x packets number place e = rw e
 
-module _ {w : Store} {h : List Event} (i : Invariant w h) where
+module _ {links : List ℕ} {w : Store} {h : List Event} (i : Invariant links w h) where
   -- each call; a refused one changes nothing
-  open-call : (q : Request) → Invariant (storeAfter (opens q) w) (h ++ eventsIn (opens q) w)
+  open-call : (q : Request) → Invariant links (storeAfter ours (opens q) w) (h ++ eventsIn ours (opens q) w)
   unfolding storeAfter eventsIn openEvents
   open-call q = go (openOutcome w q) refl
     where
-      go : (o : Outcome) → openOutcome w q ≡ o → Invariant (openStore w q) (h ++ openEvents (openOutcome w q) q (openAnswer w q))
+      go : (o : Outcome) → openOutcome w q ≡ o
+          → Invariant links (openStore w q) (h ++ openEvents (openOutcome w q) q (openAnswer w q))
       go (Opened n) e = rw e (open-keeps i q n e)
       go (NotOpened number place) e = rw (refused-open w q number place e, e, append-nil h) i
 
-  offer-call : (x packets : ℕ) → Invariant (storeAfter (offers x packets) w) (h ++ eventsIn (offers x packets) w)
+  offer-call : (x packets : ℕ)
+      → Invariant links (storeAfter ours (offers x packets) w) (h ++ eventsIn ours (offers x packets) w)
   unfolding storeAfter eventsIn offerEvents
   offer-call x packets = go (offerAnswer w x packets) refl
     where
       go : (a : Offered) → offerAnswer w x packets ≡ a
-          → Invariant (offerStore w x packets) (h ++ offerEvents (offerAnswer w x packets) x packets)
+          → Invariant links (offerStore w x packets) (h ++ offerEvents (offerAnswer w x packets) x packets)
       go (Accepted n time) e = rw e (offer-keeps i x packets n time e)
       go (Refused number place) e = rw (refused-offer w x packets number place e, e, append-nil h) i
 
-  slot-call : (size : ℕ) → Invariant (storeAfter (runs size) w) (h ++ eventsIn (runs size) w)
+  any-call : (y : Call) → Invariant links (storeAfter ours y w) (h ++ eventsIn ours y w)
   unfolding storeAfter eventsIn
-  slot-call size = go (slotTurn w size) refl
-    where
-      go : (t : Turn) → slotTurn w size ≡ t → Invariant (slotStore w size) (h ++ map sent (slotSent w size))
-      go Ran e = slot-keeps i size e
-      go (NotRun number place) e = rw (e, append-nil h) i
-
-  any-call : (y : Call) → Invariant (storeAfter y w) (h ++ eventsIn y w)
   any-call (opens q) = open-call q
   any-call (offers x packets) = offer-call x packets
-  any-call (runs size) = slot-call size
+  any-call (runs size) = slot-call i size
+  any-call (skips n) = rw (append-nil h) (skip-keeps i n)
 
   slot-number : (size : ℕ) (t : Turn) → slotTurn w size ≡ t → slotNumber w size ≡ 17 → ⊥
   slot-number size Ran e f = let z : _≡_ {A = ℕ} 0 17 = rw e at f in omega arith
@@ -75,7 +75,7 @@ module _ {w : Store} {h : List Event} (i : Invariant w h) where
       let z : number ≡ 17 = rw e at f in
       slot-never (i .seen) (i .steady) (i .near) size place (rw z at e)
 
-  never-17 : Never17 w h
+  never-17 : Never17 ours links w h
   never-17 = (
     (λ q. open-never w q (is-sound w (i .seen .sound))),
     (offer-never (i .seen) (i .steady) (i .burst)),
@@ -83,21 +83,24 @@ module _ {w : Store} {h : List Event} (i : Invariant w h) where
   )
 
 -- the invariant of every store that is reached
-pub holds : (w : Store) (h : List Event) → Reached w h → Invariant w h
-holds w h (fresh w₀ links e) = set-up-makes w₀ links e
-holds w h (next w₀ h₀ r y) = any-call (holds w₀ h₀ r) y
+holds : (links : List ℕ) (w : Store) (h : List Event) → Reached ours links w h → Invariant links w h
+holds links w h (fresh w₀ e) = set-up-makes w₀ links e
+holds links w h (next w₀ h₀ r y) = any-call (holds links w₀ h₀ r) y
 
-pub promise : (w : Store) (h : List Event) → Reached w h → Promise w h
-promise w h r =
-    let i : Invariant w h = holds w h r in
+pub promise : Keeps ours
+promise links w h r =
+    let i : Invariant links w h = holds links w h r in
     record {
-      never-late = (held-in-time i, sent-in-time i);
+      never-late = λ x o j l. (held-in-time i x o j l, sent-in-time i x o j l);
       never-over = never-over i;
       in-order = in-order i;
       arrives = arrives i;
       conserved = conserved i;
+      slots = slots i;
       never-17 = never-17 i;
-      own-rule = λ x q answer m packets. own-answer i x q answer (every-in _ h (i .events) _ m) packets;
-      as-opened = λ x q answer m. every-in _ h (i .events) _ m;
+      own-rule = λ x o packets. own-answer i x (o .request) (o .answer) (as-opened i x o) packets;
+      as-set-up = i .network;
+      as-opened = as-opened i;
+      counted = λ x o j l. sym (sends-count i o j l);
       was-opened = i .known;
     }

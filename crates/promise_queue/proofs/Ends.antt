@@ -70,7 +70,8 @@ module _ (c p : ℕ) (ms : List Message) (o : Orderly c p 0 0 ms) where
   end-mono : (i n : ℕ) → i ≤ n → endAfter ms i ≤ endAfter ms n
   end-mono = mono c p 0 0 ms o
 
-  no-later : (x i n : ℕ) → endAfter ms n ≤ x → x < endAfter ms (suc i) → n ≤ i
+  -- no message begins before a packet that is behind one of its own
+  pub no-later : (x i n : ℕ) → endAfter ms n ≤ x → x < endAfter ms (suc i) → n ≤ i
   no-later x i n a b = go (decLe n i)
     where
       go : Dec (n ≤ i) → n ≤ i
@@ -84,6 +85,14 @@ module _ (c p : ℕ) (ms : List Message) (o : Orderly c p 0 0 ms) where
 
   pub time-apart : (n : ℕ) → suc n < length ms → timeAt ms n + p ≤ timeAt ms (suc n)
   time-apart = apart c p 0 0 ms o
+
+  pub time-mono : (i n : ℕ) → i ≤ n → n < length ms → timeAt ms i ≤ timeAt ms n
+  time-mono i zero h l = let e : i ≡ 0 = omega arith in rw e (omega arith)
+  time-mono i (suc n) h l = go (decLe i n) (λ k. time-mono i n k (omega arith))
+    where
+      go : Dec (i ≤ n) → (i ≤ n → timeAt ms i ≤ timeAt ms n) → timeAt ms i ≤ timeAt ms (suc n)
+      go (yes k) r = omega (arith, r k, time-apart n l)
+      go (no k) r = let e : i ≡ suc n = omega (arith, k) in rw e (omega arith)
 
   pub time-least : (n : ℕ) → n < length ms → n * p ≤ timeAt ms n
   time-least n h = omega (arith, no-sooner c p 0 0 ms o n h)

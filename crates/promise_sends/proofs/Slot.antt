@@ -17,32 +17,31 @@ use Rattle.promise_queue.specs.Keep.{keep}
 use Rattle.promise_queue.proofs.Keep.{keep-yes, keep-no, keep-append}
 use Rattle.promise_sends.specs.Sends.{isOn}
 
-module _ (w : Store) (x l : ℕ) where
-  -- another link
-  from-other : (m position : ℕ) → (m ≡ l → ⊥) → keep (isOn x l) (sendFrom w m position) ≡ []
+-- Some of the sends, all on link l: those of a slot are those of what link l sends.
+module _ (w : Store) (l : ℕ) (f : Send → Bool) (only : (s : Send) → (s .link ≡ l → ⊥) → f s ≡ false) where
+  from-other : (m position : ℕ) → (m ≡ l → ⊥) → keep f (sendFrom w m position) ≡ []
   unfolding keep
   from-other m zero other = refl
   from-other m (suc k) other =
-      keep-no (isOn x l) (sendAt w m (rowChannelOf w m k) (rowPlaceOf w m k)) []
-      (and-false (eqb (rowChannelOf w m k) x) (eqb m l) (ne-eqb m l other))
+      keep-no f (sendAt w m (rowChannelOf w m k) (rowPlaceOf w m k)) [] (only (sendAt w m _ _) other)
 
-  to-before : (n : ℕ) → n ≤ l → keep (isOn x l) (sendsTo w n) ≡ []
+  to-before : (n : ℕ) → n ≤ l → keep f (sendsTo w n) ≡ []
   unfolding keep sendsTo
   to-before zero h = refl
   to-before (suc n) h =
-      keep-append (isOn x l) (sendsTo w n) (sendFrom w n (pickOf w n))
+      keep-append f (sendsTo w n) (sendFrom w n (pickOf w n))
       ∙ rw (to-before n (omega arith), from-other n (pickOf w n) (λ e. omega arith))
 
-  -- what the first n links send there is what link l sends
-  to-there : (n : ℕ) → l < n → keep (isOn x l) (sendsTo w n) ≡ keep (isOn x l) (sendFrom w l (pickOf w l))
+  pub to-there : (n : ℕ) → l < n → keep f (sendsTo w n) ≡ keep f (sendFrom w l (pickOf w l))
   unfolding sendsTo
   to-there zero h = absurd (omega arith)
   to-there (suc n) h =
-      keep-append (isOn x l) (sendsTo w n) (sendFrom w n (pickOf w n))
+      keep-append f (sendsTo w n) (sendFrom w n (pickOf w n))
       ∙ below l n h
       (λ m. rw (to-there n m, from-other n (pickOf w n) (λ e. omega arith)) (append-nil _))
       (λ e. rw (to-before n (omega arith), e))
 
+module _ (w : Store) (x l : ℕ) where
   -- link l: the row picked is of the channel, or not
   from-none : keep (isOn x l) (sendFrom w l zero) ≡ []
   unfolding keep
@@ -74,4 +73,6 @@ module _ {w : Store} (s : Sound w) (x j : ℕ) (h : IsChannel w x) (i : j < hops
 
   pub sends-on : keep (isOn x (routeOf w x j)) (slotSends w)
       ≡ elim (leaves w x j) [ true ↦ sendAt w (routeOf w x j) x j ∷ [] | false ↦ [] ]
-  sends-on = to-there w x l (linksOf w) (s .channel x h .route .known j i) ∙ from-here
+  sends-on =
+      to-there w l (isOn x l) (λ u other. and-false (eqb (u .channel) x) (eqb (u .link) l) (ne-eqb (u .link) l other)) (linksOf w)
+      (s .channel x h .route .known j i) ∙ from-here

@@ -14,7 +14,7 @@ use Rattle.slot_rules.proofs.Laws.Pick.{picked}
 use Rattle.slot_keeps.specs.Room.{isOf, leaves}
 
 -- a link stands once in a route
-place-once : {w : Store} {route : ℕ → ℕ} {n : ℕ} → Good345 w route n → (i j : ℕ) → i < n → j < n → route i ≡ route j → i ≡ j
+pub place-once : {w : Store} {route : ℕ → ℕ} {n : ℕ} → Good345 w route n → (i j : ℕ) → i < n → j < n → route i ≡ route j → i ≡ j
 place-once g i j h k e = go (decLt i j) (decLt j i)
   where
     go : Dec (i < j) → Dec (j < i) → i ≡ j
