@@ -29,11 +29,13 @@ module _ {links : List ℕ} {w : Store} {h : List Event} (i : Invariant links w 
   pub arrives : Arrives links w h
   arrives x m l k there =
       let e : IsMessage w (messagesIn h) x m l k = is-message i x m l k there in
-      let size : endAfter (messagesIn h x) (suc m) - endAfter (messagesIn h x) m ≡ k = omega (arith, e .size) in
-      (i .known x (e .channel), λ o past.
-      let same : hopsOf w x ≡ places o = as-opened i x o .hops-are in
-      let last : places o - 1 < places o = omega (arith, own i o .hops-least) in
-      let d = as-opened i x o .d-is in
-      let a = arrived (i .seen) (i .steady) (i .within) (i .logged) x m (known i o) (e .inside) (omega (arith, e .time, d)) in
-      rw (link-is i o (places o - 1) last, ← same, ← d)
-      (a .0 ∙ (rw size (sym (names-of m l k))), rw (e .time) at (a .1)))
+      let size : endAfter (messagesIn h x) (suc m) - endAfter (messagesIn h x) m ≡ k = omega (arith, e .size) in (
+        i .known x (e .channel),
+        λ o past.
+            let same : hopsOf w x ≡ places o = as-opened i x o .hops-are in
+            let last : places o - 1 < places o = omega (arith, own i o .hops-least) in
+            let d = as-opened i x o .d-is in
+            let a = arrived (i .seen) (i .steady) (i .within) (i .logged) x m (known i o) (e .inside) (omega (arith, e .time, d)) in
+            rw (link-is i o (places o - 1) last, ← same, ← d)
+            (a .0 ∙ (rw size (sym (names-of m l k))), rw (e .time) at (a .1)),
+      )

@@ -142,7 +142,7 @@ module _ {links : List ℕ} {w : Store} {h : List Event} (i : Invariant links w 
     is-soon s = (
       (λ m. let r : RowOf m = row-of m in omega (arith, r .no-sooner, s .early (r .row) (r .inside-link) (r .held))),
       (let near : _ = i .network .horizon-is l (rw (i .network .links-are) at there) in
-      omega (arith, s .near, near, first-logical i o j place some)),
+          omega (arith, s .near, near, first-logical i o j place some)),
       (λ m.
           let r : RowOf m = row-of m in
           leads (logical links w h) (rowLogical w l) (first-logical i o j place some) m r (r .no-sooner)

@@ -1,10 +1,10 @@
 -- The theorem: our library keeps all that specs/Promise.antt promises, whatever calls come in whatever order. Set-up makes the
 -- invariant, each call keeps it, and each statement follows from it.
 use Prim.Native.Nat.{ℕ}
-use mathlib.Core.Path.{_≡_, refl, sym}
+use mathlib.Core.Path.{_≡_, refl, ap, _∙_, sym}
 use mathlib.Core.List.{List, _++_, map, append-nil}
 use native.Mathlib.Omega.{arith}
-use Rattle.store.specs.Layout.{Store}
+use Rattle.store.specs.Layout.{Store, clockOf}
 use Rattle.store.proofs.Laws.Sound.{is-sound}
 use Rattle.open_rules.specs.declared.Outcome.{Outcome}
 use Rattle.open_rules.specs.declared.Outcome.the-variants.{Accepted as Opened, Refused as NotOpened}
@@ -16,12 +16,15 @@ use Rattle.slot_rules.specs.declared.Turn.{Turn}
 use Rattle.slot_rules.specs.declared.Turn.the-variants.{Ran, Refused as NotRun}
 use Rattle.offer_rules.specs.Offer.{offerAnswer, offerStore}
 use Rattle.slot_rules.specs.Slot.{slotTurn, slotNumber, slotSent, slotStore}
+use Rattle.open_keeps.proofs.Kept.{clock-kept}
+use Rattle.offer_keeps.proofs.Frame.{offered-clock}
 use Rattle.open.proofs.Laws.{never-17 as open-never}
-use Rattle.promise_open.proofs.Granted.{refused-store as refused-open}
-use Rattle.promise_offer.proofs.Answer.{never-17 as offer-never}
+use Rattle.promise_open.proofs.Granted.{open-kept, refused-store as refused-open}
+use Rattle.promise_offer.proofs.Answer.{accepted-is, never-17 as offer-never}
 use Rattle.promise_slot.proofs.Never.{never-17 as slot-never}
-use Rattle.promise.specs.Calls.{ours, Call, Event, storeAfter, eventsIn, openEvents, offerEvents, Reached}
-use Rattle.promise.specs.Promise.{Never17, Promise, Keeps}
+use Rattle.promise.specs.Calls.{Call, Event, storeAfter, eventsIn, openEvents, offerEvents, Reached}
+use Rattle.promise.specs.Ours.{ours, Demand3}
+use Rattle.promise.specs.Promise.{Never17, Promise}
 use Rattle.promise.specs.Calls.Event.{sent}
 use Rattle.promise.specs.Calls.Call.{opens, offers, runs, skips}
 use Rattle.promise.specs.Calls.Reached.{fresh, next}
@@ -31,7 +34,7 @@ use Rattle.promise.proofs.Holds.{held-in-time, never-over, in-order, co
 use Rattle.promise.proofs.Open.{set-up-makes, open-keeps}
 use Rattle.promise.proofs.Offer.{offer-keeps}
 use Rattle.promise.proofs.Slot.{slot-call}
-use Rattle.promise.proofs.Skip.{skip-keeps}
+use Rattle.promise.proofs.Skip.{skip-keeps, waits}
 use Rattle.promise.proofs.Slots.{slots}
 use Rattle.promise.proofs.Own.{own-answer}
 use Rattle.promise.proofs.Arrives.{sent-in-time, arrives}
@@ -69,6 +72,21 @@ module _ {links : List ℕ} {w : Store} {h : List Event} (i : Invariant links w 
   any-call (runs size) = slot-call i size
   any-call (skips n) = rw (append-nil h) (skip-keeps i n)
 
+  -- an open and an offer leave the clock alone
+  open-clock : (q : Request) → clockOf (openStore w q) ≡ clockOf w
+  open-clock q = go (openOutcome w q) refl
+    where
+      go : (o : Outcome) → openOutcome w q ≡ o → clockOf (openStore w q) ≡ clockOf w
+      go (Opened n) e = clock-kept (open-kept q n e)
+      go (NotOpened number place) e = ap clockOf (refused-open w q number place e)
+
+  offer-clock : (x packets : ℕ) → clockOf (offerStore w x packets) ≡ clockOf w
+  offer-clock x packets = go (offerAnswer w x packets) refl
+    where
+      go : (a : Offered) → offerAnswer w x packets ≡ a → clockOf (offerStore w x packets) ≡ clockOf w
+      go (Accepted n time) e = ap clockOf (accepted-is w x packets n time e .store-is) ∙ offered-clock w x packets
+      go (Refused number place) e = ap clockOf (refused-offer w x packets number place e)
+
   slot-number : (size : ℕ) (t : Turn) → slotTurn w size ≡ t → slotNumber w size ≡ 17 → ⊥
   slot-number size Ran e f = let z : _≡_ {A = ℕ} 0 17 = rw e at f in omega arith
   slot-number size (NotRun number place) e f =
@@ -87,7 +105,7 @@ holds : (links : List ℕ) (w : Store) (h : List Event) → Reached ours links w
 holds links w h (fresh w₀ e) = set-up-makes w₀ links e
 holds links w h (next w₀ h₀ r y) = any-call (holds links w₀ h₀ r) y
 
-pub promise : Keeps ours
+pub promise : Demand3
 promise links w h r =
     let i : Invariant links w h = holds links w h r in
     record {
@@ -97,6 +115,8 @@ promise links w h r =
       arrives = arrives i;
       conserved = conserved i;
       slots = slots i;
+      clock-stays = (open-clock i, offer-clock i);
+      waits = waits i;
       never-17 = never-17 i;
       own-rule = λ x o packets. own-answer i x (o .request) (o .answer) (as-opened i x o) packets;
       as-set-up = i .network;

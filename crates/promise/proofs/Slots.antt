@@ -21,7 +21,8 @@ use Rattle.slot_rules.specs.Pick.{pickOf}
 use Rattle.slot_rules.specs.Slot.{Send, sendFrom, sendsTo, moved, slotChecks, slotTurn}
 use Rattle.slot_keeps.proofs.After.{clock-after}
 use Rattle.promise_slot.proofs.Sound.{sound-after}
-use Rattle.promise.specs.Calls.{ours, Event}
+use Rattle.promise.specs.Calls.{Event}
+use Rattle.promise.specs.Ours.{ours}
 use Rattle.promise.specs.Promise.{Runs, Progress}
 use Rattle.promise.proofs.Invariant.{Invariant}
 use Rattle.promise.proofs.Picked.{picks}
@@ -43,9 +44,10 @@ module _ {links : List ℕ} {w : Store} {h : List Event} (i : Invariant links w 
   runs : clockOf w < endSlot → ltb (clockOf w) endSlot ≡ true → leb (5 * linksOf w) size ≡ true → slotTurn w size ≡ Ran
   unfolding slotTurn
   runs now e f =
-      all-passed Refused (slotChecks w size) Ran
-      (is-sound w (i .seen .sound),
-      (e, (f, (is-sound (moved w) (sound-after (i .seen) (i .steady) (i .near) now), tt))))
+      all-passed Refused (slotChecks w size) Ran (
+        is-sound w (i .seen .sound),
+        (e, (f, (is-sound (moved w) (sound-after (i .seen) (i .steady) (i .near) now), tt))),
+      )
 
   at-end : ltb (clockOf w) endSlot ≡ false → slotTurn w size ≡ Refused 14 0
   unfolding slotTurn firstFailed

@@ -1,22 +1,17 @@
--- The calls, over any library on our store, and what happens in them. `ours` is the library that the contracts describe.
+-- The calls of any library on our store, and what happens in them.
 use Prim.Native.Nat.{ℕ}
 use mathlib.Core.Path.{_≡_}
 use mathlib.Core.List.{List, [], _∷_, _++_, map}
 use Rattle.store.specs.Layout.{Store}
 use Rattle.setup.specs.declared.SetUp.{SetUp}
 use Rattle.setup.specs.declared.SetUp.the-variants.{Ready}
-use Rattle.setup.specs.SetUp as setup
 use Rattle.open_rules.specs.declared.Outcome.{Outcome}
 use Rattle.open_rules.specs.declared.Outcome.the-variants.{Accepted as Opened, Refused as NotOpened}
 use Rattle.open_rules.specs.declared.Opening.{Opening}
 use Rattle.open_rules.specs.Request.{Request}
-use Rattle.open_rules.specs.Open as opening
 use Rattle.offer_rules.specs.declared.Offered.{Offered}
 use Rattle.offer_rules.specs.declared.Offered.the-variants.{Accepted, Refused}
-use Rattle.offer_rules.specs.Offer as offering
 use Rattle.slot_rules.specs.Slot.{Send}
-use Rattle.slot_rules.specs.Slot as slot
-use Rattle.slot_rules.specs.Idle as idle
 
 -- a library: what each call that writes a store answers, and the store that it leaves
 pub record Library : Type 0 where
@@ -31,22 +26,6 @@ pub record Library : Type 0 where
   pub slotSent : Store → (size : ℕ) → List Send
   pub slotStore : Store → (size : ℕ) → Store
   pub skipStore : Store → (slots : ℕ) → Store
-
--- ours: the definitions that the contracts cite
-abbrev pub ours : Library
-ours = record {
-  setUpAnswer = setup.setUpAnswer;
-  setUpStore = setup.setUpStore;
-  openOutcome = opening.openOutcome;
-  openAnswer = opening.openAnswer;
-  openStore = opening.openStore;
-  offerAnswer = offering.offerAnswer;
-  offerStore = offering.offerStore;
-  slotNumber = slot.slotNumber;
-  slotSent = slot.slotSent;
-  slotStore = slot.slotStore;
-  skipStore = idle.skipStore;
-}
 
 -- the calls after set-up that write a store, with any arguments; `size` is the length of the output that is lent to a slot
 pub data Call : Type 0 where

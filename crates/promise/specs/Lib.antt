@@ -1,3 +1,4 @@
 pub mod Calls
 pub mod Happened
 pub mod Promise
+pub mod Ours

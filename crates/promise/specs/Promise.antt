@@ -2,7 +2,7 @@
 -- than was reserved, every accepted message arrives whole, in order, in time." And document 01: "On a store reached from set-up
 -- the other calls never give 17." This file says what is promised, over what has happened: requests, answers, sends, and the
 -- clock. That our library keeps it is `promise` in proofs/Promise.antt.
-use Prim.Native.Nat.{ℕ, suc, _+_, _-_, _*_, _≤_, _<_, max}
+use Prim.Native.Nat.{ℕ, zero, suc, _+_, _-_, _*_, _≤_, _<_, max}
 use mathlib.Core.Path.{_≡_}
 use mathlib.Core.Bool.{Bool}
 use mathlib.Core.Logic.{_⊎_}
@@ -130,6 +130,22 @@ module _ (lib : Library) (links : List ℕ) (w : Store) (h : List Event) where
   Progress size = ((lib .slotNumber w size ≡ 0) × Runs size)
       ⊎ ((lib .slotNumber w size ≡ 0 → ⊥) × (lib .slotSent w size ≡ []) × ((endSlot ≤ clockOf w) ⊎ (size < 5 * linksIn links)))
 
+  -- The clock moves in no other call but a skip, which is so many slots or fewer, each of which runs and sends nothing.
+  abbrev pub ClockStays : Type 0
+  ClockStays = ((q : Request) → clockOf (lib .openStore w q) ≡ clockOf w)
+      × ((x packets : ℕ) → clockOf (lib .offerStore w x packets) ≡ clockOf w)
+
+  unfoldable pub slotsRun : (n : ℕ) → Store
+  slotsRun zero = w
+  slotsRun (suc n) = lib .slotStore (slotsRun n) (5 * linksIn links)
+
+  pub record Waits (slots : ℕ) : Type 0 where
+    pub count : ℕ
+    pub most : count ≤ slots
+    pub store-is : lib .skipStore w slots ≡ slotsRun count
+    pub runs : (n : ℕ) → n < count → lib .slotNumber (slotsRun n) (5 * linksIn links) ≡ 0
+    pub silent : (n : ℕ) → n < count → lib .slotSent (slotsRun n) (5 * linksIn links) ≡ []
+
   -- 7. 17 is never given, whatever is asked
   abbrev pub Never17 : Type 0
   Never17 = ((q : Request) (place : ℕ) → lib .openOutcome w q ≡ NotOpened 17 place → ⊥)
@@ -183,6 +199,8 @@ pub record Promise (lib : Library) (links : List ℕ) (w : Store) (h : List Even
   pub arrives : Arrives links w h
   pub conserved : Conserved links w h
   pub slots : (size : ℕ) → Progress lib links w h size
+  pub clock-stays : ClockStays lib links w h
+  pub waits : (slots : ℕ) → Waits lib links w h slots
   pub never-17 : Never17 lib links w h
   pub own-rule : OwnRule lib w h
   pub as-set-up : AsSetUp links w

@@ -1,0 +1,2 @@
+pub mod Broken
+pub mod Wrong

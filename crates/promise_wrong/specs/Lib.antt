@@ -1,0 +1,3 @@
+pub mod Broken
+pub mod Libraries
+pub mod Runs

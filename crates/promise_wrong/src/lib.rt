@@ -1,0 +1,1 @@
+// No code: libraries that break the promise, and the proofs that they do.
