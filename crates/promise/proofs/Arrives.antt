@@ -1,30 +1,34 @@
--- What was sent was sent in time, and every accepted message arrives.
+-- Nothing is late, and every accepted message arrives.
 use Prim.Native.Nat.{ℕ, suc, _-_, _<_}
 use mathlib.Core.Path.{_≡_, _∙_, sym}
 use mathlib.Core.List.{List}
 use native.Mathlib.Omega.{arith}
-use Rattle.schedule.specs.Lists.{Every, _∈_}
-use Rattle.store.specs.Layout.{Store, hopsOf}
+use lib.ListN.{getD}
+use Rattle.store.specs.Layout.{Store, hopsOf, sentOf}
+use Rattle.store.specs.Amounts.{enteredOf}
 use Rattle.promise_queue.specs.Queue.{endAfter}
-use Rattle.promise_queue.specs.Keep.{keep}
-use Rattle.slot_rules.specs.Slot.{Send}
 use Rattle.promise_sends.proofs.Arrived.{sent-early, arrived}
-use Rattle.promise_sends.specs.Sends.{isMessage}
 use Rattle.promise.specs.Calls.{Event}
-use Rattle.promise.specs.Calls.Event.{accepted}
-use Rattle.promise.specs.Happened.{WasOpened, places, sendsAt, deadlineAt}
-use Rattle.promise.specs.Promise.{Arrives}
+use Rattle.promise.specs.Happened.{packetsIn, places}
+use Rattle.promise.specs.Promise.{NeverLate, Arrives}
 use Rattle.promise.proofs.History.{messagesIn}
+use Rattle.promise.proofs.Packets.{every-between}
 use Rattle.promise.proofs.Invariant.{Invariant, IsMessage, as-opened, is-message}
-use Rattle.promise.proofs.Opened.{known, own, inside, link-is, deadline-is}
+use Rattle.promise.proofs.Opened.{none, known, own, inside, link-is, held-is, deadline-is}
+use Rattle.promise.proofs.Holds.{before}
 use Rattle.promise.proofs.Offer.{names-of}
 
 module _ {links : List ℕ} {w : Store} {h : List Event} (i : Invariant links w h) where
-  pub sent-in-time : (x : ℕ) (o : WasOpened h x) (j : ℕ) → j < places o → (m l k : ℕ) → accepted x m l k ∈ h
-      → Every (λ (u : Send). u .slot < deadlineAt o j l) (keep (isMessage m) (sendsAt o j))
-  sent-in-time x o j here m l k there =
-      let e : IsMessage w (messagesIn h) x m l k = is-message i x m l k there in
-      rw (deadline-is i o j l here, link-is i o j here) (rw (e .time) at (sent-early (i .logged) x j m (inside i o j here)))
+  pub never-late : NeverLate links w h
+  never-late x o j here = (
+    rw (held-is i o j here)
+        (every-between _ none (packetsIn h x) (sentOf w x j) (enteredOf w x j)
+        (λ u a b e.
+        rw (deadline-is i o j (getD (packetsIn h x) u none .logical) here) (omega (arith, before i x o j here u a e)))),
+    λ m l k there.
+        let e : IsMessage w (messagesIn h) x m l k = is-message i x m l k there in
+        rw (deadline-is i o j l here, link-is i o j here) (rw (e .time) at (sent-early (i .logged) x j m (inside i o j here))),
+  )
 
   pub arrives : Arrives links w h
   arrives x m l k there =
@@ -35,7 +39,8 @@ module _ {links : List ℕ} {w : Store} {h : List Event} (i : Invariant links w 
             let same : hopsOf w x ≡ places o = as-opened i x o .hops-are in
             let last : places o - 1 < places o = omega (arith, own i o .hops-least) in
             let d = as-opened i x o .d-is in
-            let a = arrived (i .seen) (i .steady) (i .within) (i .logged) x m (known i o) (e .inside) (omega (arith, e .time, d)) in
+            let a = arrived (i .seen) (i .steady) (i .within) (i .logged) x m (known i o) (e .inside)
+            (omega (arith, e .time, d)) in
             rw (link-is i o (places o - 1) last, ← same, ← d)
             (a .0 ∙ (rw size (sym (names-of m l k))), rw (e .time) at (a .1)),
       )

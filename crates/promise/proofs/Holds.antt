@@ -4,7 +4,6 @@ use mathlib.Core.Path.{_≡_}
 use mathlib.Core.List.{List}
 use native.Mathlib.Omega.{arith}
 use lib.ListN.{length, getD, take, length-take, length-drop}
-use Rattle.schedule.specs.Lists.{Every}
 use Rattle.schedule.specs.Messages.{Message, ended}
 use Rattle.store.specs.Layout.{Store, clockOf, cOf, pOf, hopsOf, delayOf, sentOf}
 use Rattle.folds.specs.Folds.{sumTo}
@@ -17,12 +16,12 @@ use Rattle.promise_queue.specs.Queue.{passed}
 use Rattle.promise_view.proofs.Counted.{accepted-count}
 use Rattle.promise_view.proofs.InTime.{before-due}
 use Rattle.promise.specs.Calls.{Event}
-use Rattle.promise.specs.Happened.{Packet, packetsIn, WasOpened, places, heldAt, deadlineAt}
+use Rattle.promise.specs.Happened.{packetsIn, WasOpened, places, heldAt}
 use Rattle.promise.specs.Promise.{NeverOver, InOrder, Conserved}
 use Rattle.promise.proofs.History.{messagesIn}
-use Rattle.promise.proofs.Packets.{every-between, Of, message-of}
+use Rattle.promise.proofs.Packets.{Of, message-of}
 use Rattle.promise.proofs.Invariant.{Invariant, as-opened}
-use Rattle.promise.proofs.Opened.{none, known, own, order, count, time-is, inside, link-is, sends-count, held-is, deadline-is}
+use Rattle.promise.proofs.Opened.{none, known, own, order, count, time-is, inside, link-is, sends-count, held-is}
 
 module _ {links : List ℕ} {w : Store} {h : List Event} (i : Invariant links w h) where
   module _ (x : ℕ) (o : WasOpened h x) where
@@ -41,7 +40,7 @@ module _ {links : List ℕ} {w : Store} {h : List Event} (i : Invariant links w 
         rw (held-is i o j l) (omega (arith, come-here, left, come j l, count i o))
 
     -- a packet that place j has not sent is before its deadline there
-    before : (j : ℕ) → j < places o → (u : ℕ) → sentOf w x j ≤ u → u < length (packetsIn h x)
+    pub before : (j : ℕ) → j < places o → (u : ℕ) → sentOf w x j ≤ u → u < length (packetsIn h x)
         → clockOf w < getD (packetsIn h x) u none .logical + sumTo (delayOf w x) (suc j)
     before j l u a b =
         rw (time-is i o u n of b)
@@ -52,12 +51,6 @@ module _ {links : List ℕ} {w : Store} {h : List Event} (i : Invariant links w 
 
         of : Of ms u n
         of = message-of (cOf w x) (pOf w x) ms (order i o) u (omega (arith, count i o))
-
-    pub held-in-time : (j : ℕ) → j < places o
-        → Every (λ (u : Packet). clockOf w < deadlineAt o j (u .logical)) (heldAt o j)
-    held-in-time j l = rw (held-is i o j l)
-        (every-between _ none (packetsIn h x) (sentOf w x j) (enteredOf w x j)
-        (λ u a b e. rw (deadline-is i o j (getD (packetsIn h x) u none .logical) l) (before j l u a e)))
 
   pub never-over : NeverOver links w h
   never-over = (

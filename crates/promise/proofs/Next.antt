@@ -1,19 +1,19 @@
 -- The packet that goes next at a place leads all that are held there: "within a channel: message order, then packet order".
-use Prim.Native.Nat.{ℕ, zero, suc, _+_, _-_, _≤_, _<_}
-use mathlib.Core.Path.{_≡_, refl, _∙_}
+use Prim.Native.Nat.{ℕ, _-_, _≤_, _<_}
+use mathlib.Core.Path.{_≡_}
 use mathlib.Core.Logic.{_⊎_, inl, inr}
 use mathlib.Core.List.{List}
 use native.Mathlib.Decide.{decLt}
 use native.Mathlib.Omega.{arith}
 use lib.ListN.{length}
 use Rattle.schedule.specs.Lists.{_∈_}
-use Rattle.schedule.specs.Messages.{Message, ended}
-use Rattle.store.specs.Layout.{Store, cOf, pOf, delayOf, sentOf}
+use Rattle.schedule.specs.Messages.{Message}
+use Rattle.store.specs.Layout.{Store, cOf, pOf, sentOf}
 use Rattle.store.specs.Amounts.{enteredOf}
 use Rattle.folds.specs.Folds.{sumTo}
 use Rattle.slot_rules.specs.Head.{messageOf, packetOf, logicalOf, deadlineOf}
 use Rattle.slot_rules.proofs.Laws.Head.{entered-most}
-use Rattle.promise_queue.specs.Queue.{timeAt, endAfter, passed}
+use Rattle.promise_queue.specs.Queue.{endAfter, passed}
 use Rattle.promise_queue.proofs.Ends.{no-later, time-mono}
 use Rattle.promise_view.proofs.Counted.{accepted-count}
 use Rattle.promise_view.proofs.Next.{NextIs, next-is}

@@ -16,7 +16,8 @@ use Rattle.promise_queue.proofs.Packets.{packets-length}
 use Rattle.promise_view.proofs.Counted.{accepted-count, sent-most}
 use Rattle.promise_sends.specs.Sends.{nameOf as nameSent}
 use Rattle.promise.specs.Calls.{Event}
-use Rattle.promise.specs.Happened.{Packet, nameOf, packetsIn, sendsOn, WasOpened, places, linkAt, sendsAt, comeTo, heldAt, logicalAt}
+use Rattle.promise.specs.Happened.{Packet, nameOf, packetsIn, sendsOn, WasOpened, places, linkAt, sendsAt, comeTo, heldAt}
+use Rattle.promise.specs.Happened.{logicalAt}
 use Rattle.promise.specs.Happened.{deadlineAt}
 use Rattle.promise.specs.Promise.{AsOpened}
 use Rattle.promise.proofs.History.{messagesIn}

@@ -1,18 +1,16 @@
 -- What a link sends is the packet that the rule picks among all that it holds. The rule of the store looks at rows, one packet of
 -- a channel; a channel's next packet leads its others.
-use Prim.Native.Nat.{ℕ, zero, suc, _+_, _≤_, _<_}
+use Prim.Native.Nat.{ℕ, zero, suc, _≤_, _<_}
 use mathlib.Core.Path.{_≡_, refl, _∙_, sym}
-use mathlib.Core.Logic.{_⊎_, inl, inr}
+use mathlib.Core.Logic.{inl, inr}
 use mathlib.Core.Bool.{true}
 use mathlib.Core.List.{List, []}
 use native.Mathlib.Decide.{decLt}
 use native.Mathlib.Omega.{arith}
-use lib.ListN.{length}
 use borrow.Author.Tests.{ltb-true, lt-ltb, eq-eqb, ne-eqb}
-use Rattle.store.specs.Layout.{Store, linksOf, clockOf, rowsOf, rowChannelOf, rowPlaceOf, hopsOf, routeOf, sentOf, IsChannel}
+use Rattle.store.specs.Layout.{Store, linksOf, rowsOf, rowChannelOf, rowPlaceOf, hopsOf, routeOf, sentOf}
 use Rattle.store.specs.Amounts.{enteredOf}
 use Rattle.store.proofs.Laws.Sound.{RowIs, RowFor}
-use Rattle.setup_list.specs.List.{linksIn}
 use Rattle.slot_rules.specs.Pick.{rowHeld, rowLogical, rowDeadline, pickOf}
 use Rattle.slot_rules.specs.Slot.{Send, sendAt, sendFrom, slotSends}
 use Rattle.slot_rules.proofs.Laws.Best.{Leads as RowLeads}
@@ -22,11 +20,11 @@ use Rattle.promise_queue.specs.Keep.{keep}
 use Rattle.promise_queue.proofs.Keep.{keep-yes}
 use Rattle.promise_sends.proofs.Slot.{to-there}
 use Rattle.promise.specs.Calls.{Event}
-use Rattle.promise.specs.Happened.{Packet, packetsIn, WasOpened, places, heldAt}
+use Rattle.promise.specs.Happened.{Packet, packetsIn, WasOpened, places}
 use Rattle.promise.specs.Promise.{HeldOn, logical, deadline, Leads, Due, Soon, sendOf, Picks, isLink}
 use Rattle.promise.proofs.Packets.{NumberIs}
 use Rattle.promise.proofs.Invariant.{Invariant, as-opened}
-use Rattle.promise.proofs.Opened.{none, known, inside, link-is, logical-is, deadline-is}
+use Rattle.promise.proofs.Opened.{none, known, inside, link-is}
 use Rattle.promise.proofs.Next.{Before, number-of, first, first-held, first-message, first-packet, first-logical}
 use Rattle.promise.proofs.Next.{first-deadline, time-later, first-before}
 

@@ -2,7 +2,7 @@
 -- invariant, each call keeps it, and each statement follows from it.
 use Prim.Native.Nat.{ℕ}
 use mathlib.Core.Path.{_≡_, refl, ap, _∙_, sym}
-use mathlib.Core.List.{List, _++_, map, append-nil}
+use mathlib.Core.List.{List, _++_, append-nil}
 use native.Mathlib.Omega.{arith}
 use Rattle.store.specs.Layout.{Store, clockOf}
 use Rattle.store.proofs.Laws.Sound.{is-sound}
@@ -15,7 +15,7 @@ use Rattle.offer_rules.specs.declared.Offered.the-variants.{Accepted, Refused}
 use Rattle.slot_rules.specs.declared.Turn.{Turn}
 use Rattle.slot_rules.specs.declared.Turn.the-variants.{Ran, Refused as NotRun}
 use Rattle.offer_rules.specs.Offer.{offerAnswer, offerStore}
-use Rattle.slot_rules.specs.Slot.{slotTurn, slotNumber, slotSent, slotStore}
+use Rattle.slot_rules.specs.Slot.{slotTurn, slotNumber}
 use Rattle.open_keeps.proofs.Kept.{clock-kept}
 use Rattle.offer_keeps.proofs.Frame.{offered-clock}
 use Rattle.open.proofs.Laws.{never-17 as open-never}
@@ -24,20 +24,19 @@ use Rattle.promise_offer.proofs.Answer.{accepted-is, never-17 as offer-never}
 use Rattle.promise_slot.proofs.Never.{never-17 as slot-never}
 use Rattle.promise.specs.Calls.{Call, Event, storeAfter, eventsIn, openEvents, offerEvents, Reached}
 use Rattle.promise.specs.Ours.{ours, Demand3}
-use Rattle.promise.specs.Promise.{Never17, Promise}
-use Rattle.promise.specs.Calls.Event.{sent}
+use Rattle.promise.specs.Promise.{Never17}
 use Rattle.promise.specs.Calls.Call.{opens, offers, runs, skips}
 use Rattle.promise.specs.Calls.Reached.{fresh, next}
 use Rattle.promise.proofs.Invariant.{Invariant, as-opened}
 use Rattle.promise.proofs.Opened.{sends-count}
-use Rattle.promise.proofs.Holds.{held-in-time, never-over, in-order, conserved}
+use Rattle.promise.proofs.Holds.{never-over, in-order, conserved}
 use Rattle.promise.proofs.Open.{set-up-makes, open-keeps}
 use Rattle.promise.proofs.Offer.{offer-keeps}
 use Rattle.promise.proofs.Slot.{slot-call}
 use Rattle.promise.proofs.Skip.{skip-keeps, waits}
 use Rattle.promise.proofs.Slots.{slots}
 use Rattle.promise.proofs.Own.{own-answer}
-use Rattle.promise.proofs.Arrives.{sent-in-time, arrives}
+use Rattle.promise.proofs.Arrives.{never-late, arrives}
 
 refused-offer : (w : Store) (x packets number place : ℕ) → offerAnswer w x packets ≡ Refused number place
     → offerStore w x packets ≡ w
@@ -109,7 +108,7 @@ pub promise : Demand3
 promise links w h r =
     let i : Invariant links w h = holds links w h r in
     record {
-      never-late = λ x o j l. (held-in-time i x o j l, sent-in-time i x o j l);
+      never-late = never-late i;
       never-over = never-over i;
       in-order = in-order i;
       arrives = arrives i;

@@ -1,7 +1,7 @@
 -- A slot before the end slot, with room for the sends, runs; one that does not run sends nothing.
 use Prim.Native.Nat.{ℕ, zero, suc, _*_, _≤_, _<_}
 use mathlib.Core.Path.{_≡_, refl, _∙_}
-use mathlib.Core.Logic.{_⊎_, inl, inr}
+use mathlib.Core.Logic.{inl, inr}
 use mathlib.Core.Bool.{Bool, true, false}
 use mathlib.Core.List.{List}
 use native.Mathlib.Numerals.{add-one}
@@ -13,7 +13,6 @@ use Rattle.schedule.specs.Lists.{Every}
 use Rattle.schedule.proofs.Lists.{every-append}
 use Rattle.store.specs.Layout.{Store, linksOf, clockOf}
 use Rattle.store.proofs.Laws.Sound.{is-sound}
-use Rattle.setup_list.specs.List.{linksIn}
 use Rattle.checks.specs.Checks.{firstFailed}
 use Rattle.checks.proofs.Laws.{all-passed}
 use Rattle.slot_rules.specs.declared.Turn.the-variants.{Ran, Refused}
@@ -57,10 +56,6 @@ module _ {links : List ℕ} {w : Store} {h : List Event} (i : Invariant links w 
   unfolding slotTurn firstFailed
   no-room e f = rw (is-sound w (i .seen .sound), e, f)
 
-  refused : (number : ℕ) → (number ≡ 0 → ⊥) → slotTurn w size ≡ Refused number 0 → (endSlot ≤ clockOf w) ⊎ (size < 5 * linksIn links)
-      → Progress ours links w h size
-  refused number some e why = rw e (inr (some, refl, why))
-
   ran : slotTurn w size ≡ Ran → Runs ours links w h size
   ran e = record {
     picks = λ l m. rw e (picks i l (rw (i .network .links-are) m));
@@ -75,5 +70,5 @@ module _ {links : List ℕ} {w : Store} {h : List Event} (i : Invariant links w 
       go true true e f = let r = runs (ltb-true (clockOf w) endSlot e) e f in inl (rw r, ran r)
       go true false e f =
           let room : size < 5 * linksOf w = leb-false (5 * linksOf w) size f in
-          refused 15 (λ z. omega arith) (no-room e f) (inr (omega (arith, room, i .network .links-are)))
-      go false b e f = refused 14 (λ z. omega arith) (at-end e) (inl (ltb-false (clockOf w) endSlot e))
+          rw (no-room e f) (inr ((λ z. omega arith), refl, inr (omega (arith, room, i .network .links-are))))
+      go false b e f = rw (at-end e) (inr ((λ z. omega arith), refl, inl (omega (arith, ltb-false (clockOf w) endSlot e))))

@@ -69,7 +69,7 @@ module _ {h : List Event} {x : ℕ} (o : WasOpened h x) where
   abbrev pub linkAt : (j : ℕ) → ℕ
   linkAt j = link (o .request) j
 
-  -- what was sent on the link at place j; what has come there: at the first place what was accepted, and then what was sent on the
+  -- what was sent on the link at place j; what has come there: at the first place what was accepted, later what was sent on the
   -- link before
   abbrev pub sendsAt : (j : ℕ) → List Send
   sendsAt j = sendsOn h x (linkAt j)

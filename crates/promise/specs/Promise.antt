@@ -28,11 +28,11 @@ use Rattle.promise_queue.specs.Keep.{keep}
 use Rattle.promise_sends.specs.Sends.{isMessage, nameOf as nameSent}
 use Rattle.promise.specs.Calls.{Library, Event, Reached}
 use Rattle.promise.specs.Calls.Event.{accepted}
-use Rattle.promise.specs.Happened.{Packet, nameOf, packetsOf, packetsIn, timesIn, sendsOn, WasOpened, places, linkAt, sendsAt}
+use Rattle.promise.specs.Happened.{Packet, nameOf, packetsOf, packetsIn, timesIn, WasOpened, places, linkAt, sendsAt}
 use Rattle.promise.specs.Happened.{heldAt, logicalAt, deadlineAt}
 
--- What is promised of a store w that is reached from a network of these links, with h what has happened. Channels x are those that
--- were opened, places j those of their routes.
+-- What is promised of a store w that is reached from a network of these links, with h what has happened. Channels x are those
+-- that were opened, places j those of their routes.
 module _ (links : List ℕ) (w : Store) (h : List Event) where
   -- 1. "no packet is ever late on a link": none is held at a clock at or after its deadline, and none was sent in such a slot
   abbrev pub NeverLate : Type 0

@@ -1,13 +1,13 @@
 -- A library of which the test holds after some calls does not keep the promise.
 use Prim.Native.Nat.{ℕ, suc, _*_, _≤_, _<_}
-use mathlib.Core.Path.{_≡_, refl, _∙_}
+use mathlib.Core.Path.{_≡_, refl}
 use mathlib.Core.Logic.{_⊎_, inl, inr}
-use mathlib.Core.Bool.{Bool, true, false, _||_, not, and-eq-true-iff}
+use mathlib.Core.Bool.{Bool, true, false, not, and-eq-true-iff, _||_}
 use mathlib.Core.List.{List, [], _∷_, _++_, List·Memᴰ·head, List·Memᴰ·tail}
 use native.Mathlib.Omega.{arith}
 use lib.Dec.{eqb, leb, ltb}
 use lib.ListN.{length, replicate}
-use borrow.Author.Tests.{ltb-true, leb-true, eqb-false, eq-eqb, not-true}
+use borrow.Author.Tests.{ltb-true, leb-true, eqb-false, not-true}
 use Rattle.kinds.specs.Ranges.{endSlot}
 use Rattle.folds.specs.Folds.{some}
 use Rattle.folds.proofs.Folds.{Holding, some-at}
@@ -23,7 +23,8 @@ use Rattle.promise.specs.Calls.Event.{opened, accepted, sent}
 use Rattle.promise.specs.Calls.Reached.{fresh, next}
 use Rattle.promise.specs.Happened.{Packet, WasOpened, places, heldAt, deadlineAt}
 use Rattle.promise.specs.Promise.{NeverLate, Picks, isLink, Progress, Promise, Keeps}
-use Rattle.promise_wrong.specs.Broken.{State, isReady, anyLate, lateIn, size, played, late, crowded, stands, brokenAt, broken}
+use Rattle.promise_wrong.specs.Broken.{State, isReady, anyLate, lateIn, size, played, late, crowded, stands, brokenAt}
+use Rattle.promise_wrong.specs.Broken.{broken}
 
 -- one of two tests holds
 either : (a b : Bool) → (a || b) ≡ true → (a ≡ true) ⊎ (b ≡ true)

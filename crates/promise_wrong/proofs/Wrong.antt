@@ -1,7 +1,6 @@
 -- None of the wrong libraries keeps the promise. Computed: the test of each run.
 use mathlib.Core.Path.{_≡_, refl}
 use mathlib.Core.Bool.{true}
-use mathlib.Core.List.{List}
 use Rattle.folds.specs.Folds.{every, some, firstNot, sumTo}
 use Rattle.checks.specs.Checks.{firstFailed}
 use Rattle.response.specs.Need.{ceil, work, need, packets, start}
@@ -34,11 +33,12 @@ use Rattle.promise_wrong.specs.Runs.{Run, oneLink, wrongRuns}
 use Rattle.promise_wrong.proofs.Broken.{broken-breaks}
 
 pub runs-broken : Every (λ (r : Run). broken (r .library) oneLink (r .calls) ≡ true) wrongRuns
-unfolding wrongRuns broken played lateIn anyLate rowsSent allSent rowsMoved allMoved every some firstNot sumTo firstFailed ceil work
-    need packets start tried response cleared joins reservedAlong reservedOf enteredOf inOrder rowFollows soundOf linkPassesAt zeroed
-    linkWritten linksWritten freshStore setUpAnswer setUpStore rowsTo smallest eight placesWritten channelWritten rowPut rowJoined
-    rowsJoined opened openOutcome openAnswer openStore offered offerAnswer offerStore messageWith bestOf pickOf sendsTo movedTo moved
-    slotTurn keep openEvents offerEvents storeAfter eventsIn packetsOf packetsIn sendsIn
+unfolding wrongRuns broken played lateIn anyLate rowsSent allSent rowsMoved allMoved every some firstNot sumTo firstFailed ceil
+    work need packets start tried response cleared joins reservedAlong reservedOf enteredOf inOrder rowFollows soundOf
+    linkPassesAt zeroed linkWritten linksWritten freshStore setUpAnswer setUpStore rowsTo smallest eight placesWritten
+    channelWritten rowPut rowJoined rowsJoined opened openOutcome openAnswer openStore offered offerAnswer offerStore
+    messageWith bestOf pickOf sendsTo movedTo moved slotTurn keep openEvents offerEvents storeAfter eventsIn packetsOf packetsIn
+    sendsIn
 runs-broken = (refl, (refl, (refl, (refl, (refl, tt)))))
 
 pub none-keeps : Every (λ (r : Run). Keeps (r .library) → ⊥) wrongRuns

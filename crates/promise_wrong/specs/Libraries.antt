@@ -5,7 +5,8 @@ use mathlib.Core.Bool.{true, false}
 use mathlib.Core.List.{List, [], _∷_, _++_}
 use lib.Dec.{eqb}
 use lib.ListN.{replicate}
-use Rattle.store.specs.Layout.{Store, linksOf, channelsOf, clockOf, rowsOf, rowChannelOf, rowPlaceOf, sentOf, withChannels, withClock}
+use Rattle.store.specs.Layout.{Store, linksOf, channelsOf, clockOf, rowsOf, rowChannelOf, rowPlaceOf, sentOf, withChannels}
+use Rattle.store.specs.Layout.{withClock}
 use Rattle.store.specs.Layout.{withSent}
 use Rattle.store.specs.Amounts.{reservedAlong}
 use Rattle.open_rules.specs.declared.Outcome.{Outcome}

@@ -1,7 +1,6 @@
 -- A run for each wrong library, after which the promise is broken: one link, channels over it, messages, and slots.
 use Prim.Native.Nat.{ℕ}
 use mathlib.Core.List.{List, [], _∷_}
-use Rattle.open_rules.specs.Request.{Request}
 use Rattle.promise.specs.Calls.{Library, Call}
 use Rattle.promise.specs.Calls.Call.{opens, offers, runs}
 use Rattle.promise_wrong.specs.Libraries.{sendsNothing, sendsInSlot0, clockStands, sendsAllAtOnce, acceptsAll}
