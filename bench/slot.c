@@ -12,8 +12,8 @@ enum { SLOTS = 1024, REPEATS = 15, CALLS = 20, RECORDS = RECORD * (17 + CHANNELS
 struct calls {
     uint64_t (*offer)(uint64_t *, size_t, uint64_t, uint64_t, uint64_t *, uint64_t *, uint64_t *);
     size_t (*slot)(uint64_t *, size_t, uint64_t *, size_t, uint64_t *, uint64_t *);
-    uint64_t (*idle)(const uint64_t *, size_t);
-    uint64_t (*skip)(uint64_t *, size_t, uint64_t);
+    uint64_t (*idle)(const uint64_t *, size_t, uint64_t *, uint64_t *);
+    uint64_t (*skip)(uint64_t *, size_t, uint64_t, uint64_t *, uint64_t *);
     bool (*sound)(const uint64_t *, size_t);
 };
 
@@ -192,17 +192,17 @@ static void growth(void) {
 
 /* A skip and the question before it; the clock is put back after each. */
 static void wait_for(struct side *s, uint64_t slots) {
-    uint64_t clock = store[2], wrong = 0;
+    uint64_t clock = store[2], wrong = 0, found, place;
     double start = now();
     for (uint64_t n = 0; n < CALLS; n++) {
         store[2] = clock + n % 2;
-        wrong += s->f.idle(store, BYANGHOSU_STORE) != slots - n % 2;
+        wrong += s->f.idle(store, BYANGHOSU_STORE, &found, &place) || found != slots - n % 2;
     }
     lessen(&s->idle, (now() - start) / CALLS);
     start = now();
     for (uint64_t n = 0; n < CALLS; n++) {
         store[2] = clock + n % 2;
-        wrong += s->f.skip(store, BYANGHOSU_STORE, slots) != slots - n % 2;
+        wrong += s->f.skip(store, BYANGHOSU_STORE, slots, &found, &place) || found != slots - n % 2;
     }
     lessen(&s->skip, (now() - start) / CALLS);
     store[2] = clock;
@@ -217,7 +217,7 @@ static void long_wait(void) {
     open_all(&quiet);
     store[2] = CHANNELS;
     for (int i = 0; i < 3; i++) offer_due(&plain, &r);
-    while (slots = plain_idle(store, BYANGHOSU_STORE), slots == 0) {
+    while (plain_idle(store, BYANGHOSU_STORE, &slots, &place) == 0 && slots == 0) {
         plain_slot(store, BYANGHOSU_STORE, out, SEND * LINKS, &number, &place);
         if (number) fail("every slot should run");
     }

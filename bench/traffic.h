@@ -114,8 +114,10 @@ static inline uint64_t plain_offer(uint64_t *store, size_t length, uint64_t chan
     return 0;
 }
 
-static inline uint64_t plain_idle(const uint64_t *store, size_t length) {
-    if (!plain_sound(store, length)) return 0;
+static inline uint64_t plain_idle(const uint64_t *store, size_t length, uint64_t *slots, uint64_t *place) {
+    *place = 0;
+    if (!plain_sound(store, length)) return 17;
+    if (store[2] == end_slot) return 14;
     uint64_t first = end_slot;
     for (uint64_t l = 0; l < store[0]; l++) {
         const uint64_t *k = store + link_at(l);
@@ -126,13 +128,16 @@ static inline uint64_t plain_idle(const uint64_t *store, size_t length) {
             if (from < first) first = from;
         }
     }
-    return first < store[2] ? 0 : first - store[2];
+    *slots = first < store[2] ? 0 : first - store[2];
+    return 0;
 }
 
-static inline uint64_t plain_skip(uint64_t *store, size_t length, uint64_t n) {
-    uint64_t idle = plain_idle(store, length), slots = n < idle ? n : idle;
-    if (slots) store[2] += slots;
-    return slots;
+static inline uint64_t plain_skip(uint64_t *store, size_t length, uint64_t n, uint64_t *slots, uint64_t *place) {
+    uint64_t idle, number = plain_idle(store, length, &idle, place);
+    if (number) return number;
+    *slots = n < idle ? n : idle;
+    store[2] += *slots;
+    return 0;
 }
 
 #endif

@@ -42,6 +42,15 @@ static void tick(uint64_t slots) {
     printf("slot %" PRIu64 "\n", store[BYANGHOSU_AT_CLOCK]);
 }
 
+/* How long nothing can be sent, and so many of these slots at once, at most `most`. */
+static void skip(uint64_t most) {
+    uint64_t slots, place;
+    uint64_t number = byanghosu_idle(store, BYANGHOSU_STORE, &slots, &place);
+    if (ran(number, place)) printf("nothing to send for %" PRIu64 " slots\n", slots);
+    number = byanghosu_skip(store, BYANGHOSU_STORE, most, &slots, &place);
+    if (ran(number, place)) printf("skipped %" PRIu64 "\n", slots);
+}
+
 int main(void) {
     const uint64_t links[] = {0, 1, 0, 64, 1, 2, 0, 64}; /* from, to, horizon, buffer of each link */
     const uint64_t both[] = {0, 1}, first[] = {0}, second[] = {1};
@@ -58,8 +67,7 @@ int main(void) {
     offer(0, 1);
     offer(1, 3);
     tick(6);
-    printf("nothing to send for %" PRIu64 " slots\n", byanghosu_idle(store, BYANGHOSU_STORE));
-    printf("skipped %" PRIu64 "\n", byanghosu_skip(store, BYANGHOSU_STORE, 100));
+    skip(100);
     tick(1);
     return 0;
 }

@@ -1,8 +1,8 @@
 /* Byanghosu: what the router's control board calls. Numbers and lent buffers only. For C99 and C++11, on x86-64.
  *
- * Set-up, open, offer and the response return the refusal number of document 01, or 0 where they ran; a slot gives back its
- * sends, and writes that number to a lent one. A refused call writes no output but this, `place`, the place that the refusal
- * names (0 where none is named), and an open's numbers per link, all 0; a call that ran sets `place` to 0.
+ * A call that can be refused returns the refusal number of document 01, or 0 where it ran; a slot gives back its sends, and
+ * writes that number to a lent one. A refused call writes no output but this, `place`, the place that the refusal names (0
+ * where none is named), and an open's numbers per link, all 0; a call that ran sets `place` to 0.
  *
  * What C must keep:
  * - Pointers. None may be null: where a length is 0, pass a pointer to any number of yours, which is then not touched. All are
@@ -12,7 +12,7 @@
  *   then read or write beyond it.
  * - The store. It is C's memory, and nothing in it is a pointer: it may be copied, saved and put back. Between calls C may read
  *   it and writes nothing to it. A change that leaves it unsound is answered with 17; any other is taken for true. In a store
- *   that only these calls have written since its set-up, no open, offer or slot gives 17.
+ *   that only these calls have written since its set-up, no open, offer, slot, idle or skip gives 17.
  * - Threads. One call at a time for each store and buffer, and nobody else touches it until that call returns. The library has
  *   no memory of its own, so calls that are lent other stores and buffers may run at the same time.
  * - The stack. A call needs at most BYANGHOSU_STACK bytes, among them up to 128 below the stack pointer, as x86-64 allows. It
@@ -61,10 +61,10 @@ extern "C" {
 #define BYANGHOSU_NO_CHANNEL UINT64_C(11)      /* offer: no such channel */
 #define BYANGHOSU_MESSAGE_LENGTH UINT64_C(12)  /* offer: 0 packets or more than C */
 #define BYANGHOSU_BURST UINT64_C(13)           /* offer: burst exceeded */
-#define BYANGHOSU_END_SLOT UINT64_C(14)        /* open, offer, slot: the clock is at the end slot */
+#define BYANGHOSU_END_SLOT UINT64_C(14)        /* open, offer, slot, idle, skip: the clock is at the end slot */
 #define BYANGHOSU_OUT_SHORT UINT64_C(15)       /* slot: output has room for fewer sends than there are links */
 #define BYANGHOSU_BAD_LINKS UINT64_C(16)       /* set-up: no links or more than 16, or one that is out of range; its place */
-#define BYANGHOSU_NOT_SOUND UINT64_C(17)       /* open, offer, slot: the store is not sound; set-up: it is too short */
+#define BYANGHOSU_NOT_SOUND UINT64_C(17)       /* set-up: the store is too short; any other: it is not sound */
 #define BYANGHOSU_BAD_TABLE UINT64_C(18)       /* response: over 32 rows, or a number out of range */
 
 /* What to print for a refusal number. Never null, and for a number that is none of the above it says so. */
@@ -158,13 +158,24 @@ uint64_t byanghosu_offer(uint64_t *store, size_t length, uint64_t channel, uint6
  * refused call leaves the store and `out` as they were; `place` is always 0. */
 size_t byanghosu_slot(uint64_t *store, size_t length, uint64_t *out, size_t room, uint64_t *number, uint64_t *place);
 
-/* Long waits: how many slots from now no link can send in, if nothing is offered until then. All that are left up to the end slot
- * if no packet is held, and 0 for a store that is not sound. Nothing is written. */
-uint64_t byanghosu_idle(const uint64_t *store, size_t length);
+/* Long waits: how many slots from now no link can send in, if nothing is offered until then.
+ *
+ * store    what set-up and the calls since have left; `length` numbers. Nothing is written to it
+ * slots    how many: 0 if a link can send now, all that are left up to the end slot if no packet is held
+ *
+ * Returns, in the order in which they are looked at: 17 for a store that is not sound, 14 for a clock at the end slot; `place` is
+ * always 0. */
+uint64_t byanghosu_idle(const uint64_t *store, size_t length, uint64_t *slots, uint64_t *place);
 
-/* Runs slots in which no link can send, all at once: the clock rises by n, or by what `byanghosu_idle` says if that is less.
- * Returns by how much. A store that is not sound is left as it was, and 0 returned. */
-uint64_t byanghosu_skip(uint64_t *store, size_t length, uint64_t n);
+/* Runs slots in which no link can send, all at once.
+ *
+ * store    what set-up and the calls since have left; `length` numbers. The clock rises by `slots`
+ * n        how many to run at most
+ * slots    how many were run: n, or what `byanghosu_idle` says if that is less
+ *
+ * Returns, in the order in which they are looked at: 17 for a store that is not sound, 14 for a clock at the end slot. A refused
+ * call leaves the store as it was; `place` is always 0. */
+uint64_t byanghosu_skip(uint64_t *store, size_t length, uint64_t n, uint64_t *slots, uint64_t *place);
 
 /* The response-time calculation by itself.
  *

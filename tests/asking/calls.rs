@@ -34,6 +34,13 @@ pub fn told_slot(answer: Result<Vec<[u64; 5]>, u64>) -> String {
     }
 }
 
+pub fn told_wait(answer: Result<u64, u64>) -> String {
+    match answer {
+        Ok(slots) => format!("0 0 {slots}"),
+        Err(number) => format!("{number} 0 444"),
+    }
+}
+
 // An open, answered as tests/models/opening.rs does.
 pub fn ask_open(questions: &mut Questions, length: usize, request: &Request, what: &str) -> Answer {
     let answer = open(&mut questions.store[..length], request);
@@ -84,14 +91,16 @@ impl<'a> Calls<'a> {
     }
 
     pub fn idle(&mut self, length: usize, why: &str) {
-        let slots = counters::idle(&self.questions.store[..length]);
-        self.counts.kind(slots > 0, "long waits in wild stores");
-        self.questions.ask(format!("idle {length}"), slots.to_string(), why.to_string());
+        let answer = counters::idle(&self.questions.store[..length]).map_err(|refused| refused.number);
+        self.counts.wait(answer);
+        self.counts.kind(answer.is_ok_and(|slots| slots > 0), "long waits in wild stores");
+        self.questions.ask(format!("idle {length}"), told_wait(answer), why.to_string());
     }
 
     pub fn skip(&mut self, length: usize, count: u64, why: &str) {
-        let slots = counters::skip(&mut self.questions.store[..length], count);
-        self.questions.ask(format!("skip {length} {count}"), slots.to_string(), why.to_string());
+        let answer = counters::skip(&mut self.questions.store[..length], count).map_err(|refused| refused.number);
+        self.counts.wait(answer);
+        self.questions.ask(format!("skip {length} {count}"), told_wait(answer), why.to_string());
         self.questions.ask_sum(RECORDS, "the records after a long wait");
     }
 }

@@ -1,6 +1,6 @@
 // A room in use, from set-up on: channels are opened, messages offered and slots run, here and by the library, which has to do
 // as tests/models/queues.rs does.
-use super::calls::{ask_open, told_offer, told_slot, Calls};
+use super::calls::{ask_open, told_offer, told_slot, told_wait, Calls};
 use super::questions::{with, LENGTHS};
 use crate::fail;
 use crate::models::counters;
@@ -116,20 +116,22 @@ impl<'a> Live<'a> {
         sent
     }
 
-    pub fn idle(&mut self) -> u64 {
-        let slots = self.network.idle();
-        self.calls.counts.kind(slots > 0, "long waits");
+    pub fn idle(&mut self) -> Result<u64, u64> {
+        let answer = self.network.idle();
+        self.calls.counts.wait(answer);
+        self.calls.counts.kind(answer.is_ok_and(|slots| slots > 0), "long waits");
         let question = format!("idle {}", self.length());
-        self.calls.questions.ask(question, slots.to_string(), format!("in slot {}", self.network.slot));
-        slots
+        self.calls.questions.ask(question, told_wait(answer), format!("in slot {}", self.network.slot));
+        answer
     }
 
-    pub fn skip(&mut self, count: u64) -> u64 {
-        let slots = self.network.idle().min(count);
-        self.calls.counts.kind(slots > 0, "skips");
-        self.network.slot += slots;
+    pub fn skip(&mut self, count: u64) -> Result<u64, u64> {
+        let answer = self.network.idle().map(|slots| slots.min(count));
+        self.calls.counts.wait(answer);
+        self.calls.counts.kind(answer.is_ok_and(|slots| slots > 0), "skips");
+        self.network.slot += answer.unwrap_or(0);
         let question = format!("skip {} {count}", self.length());
-        self.calls.questions.ask(question, slots.to_string(), format!("to slot {}", self.network.slot));
-        slots
+        self.calls.questions.ask(question, told_wait(answer), format!("to slot {}", self.network.slot));
+        answer
     }
 }

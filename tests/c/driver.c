@@ -23,8 +23,9 @@
  *                                    its number and place, how many ran, the sends of all, and a sum over them in turn
  * tick LENGTH ROOM COUNT        ->   five numbers a send, then NUMBER PLACE SLOTS CHANGED of so many slots; those in which
  *                                    nothing can be sent are skipped
- * idle LENGTH                   ->   how many slots no link can send in
- * skip LENGTH COUNT             ->   how many of them were skipped */
+ * idle LENGTH                   ->   NUMBER PLACE SLOTS, the last of which is how many slots no link can send in; the place 333,
+ *                                    the slots 444 before the call
+ * skip LENGTH COUNT             ->   the same, with how many of them were skipped */
 #include "../../include/byanghosu.h"
 #include <inttypes.h>
 #include <stdio.h>
@@ -182,16 +183,25 @@ static void tick(void) {
         if (t.refusal) break;
         for (size_t i = 0; i < t.numbers; i++) printf("%" PRIu64 " ", out[i]);
         slots++;
-        if (t.sends == 0) slots += byanghosu_skip(store, length, count - slots);
+        if (t.sends > 0) continue;
+        uint64_t skipped = 0, place; /* a refused skip leaves `skipped` */
+        byanghosu_skip(store, length, count - slots, &skipped, &place);
+        slots += skipped;
     }
     printf("%" PRIu64 " %" PRIu64 " %" PRIu64 " %" PRIu64 "\n", t.refusal, t.place, slots, changed);
 }
 
-static void idle(void) { printf("%" PRIu64 "\n", byanghosu_idle(store, number_to(HELD))); }
+static void idle(void) {
+    uint64_t slots = 444, place = 333;
+    uint64_t refusal = byanghosu_idle(store, number_to(HELD), &slots, &place);
+    printf("%" PRIu64 " %" PRIu64 " %" PRIu64 "\n", refusal, place, slots);
+}
 
 static void skip(void) {
     size_t length = number_to(HELD);
-    printf("%" PRIu64 "\n", byanghosu_skip(store, length, number()));
+    uint64_t count = number(), slots = 444, place = 333;
+    uint64_t refusal = byanghosu_skip(store, length, count, &slots, &place);
+    printf("%" PRIu64 " %" PRIu64 " %" PRIu64 "\n", refusal, place, slots);
 }
 
 int main(void) {

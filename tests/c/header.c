@@ -56,6 +56,16 @@ static uint64_t slot(size_t length, size_t room) {
     return number;
 }
 
+static uint64_t idle(size_t length) {
+    uint64_t slots;
+    return byanghosu_idle(store, length, &slots, &place);
+}
+
+static uint64_t skip(size_t length, uint64_t n) {
+    uint64_t slots;
+    return byanghosu_skip(store, length, n, &slots, &place);
+}
+
 static uint64_t response(size_t numbers) {
     uint64_t table[BYANGHOSU_ROW * (BYANGHOSU_MOST_ROWS + 1)], found, trials;
     for (size_t i = 0; i < sizeof table / sizeof *table; i++) table[i] = 1;
@@ -83,8 +93,12 @@ static void sizes(void) {
     expect("a sound store", byanghosu_sound(store, BYANGHOSU_STORE), true);
     expect("a store that is too short", byanghosu_sound(store, BYANGHOSU_STORE - 1), false);
     expect("a store of no numbers", byanghosu_sound(store, 0), false);
-    expect("the wait of a store that is too short", byanghosu_idle(store, BYANGHOSU_STORE - 1), 0);
-    expect("a skip in a store that is too short", byanghosu_skip(store, BYANGHOSU_STORE - 1, 1), 0);
+    expect("the wait of a store that is too short", idle(BYANGHOSU_STORE - 1), BYANGHOSU_NOT_SOUND);
+    expect("a skip in a store that is too short", skip(BYANGHOSU_STORE - 1, 1), BYANGHOSU_NOT_SOUND);
+    expect("a wait", idle(BYANGHOSU_STORE), BYANGHOSU_RAN);
+    expect("a skip to the end slot", skip(BYANGHOSU_STORE, UINT64_MAX), BYANGHOSU_RAN);
+    expect("the wait at the end slot", idle(BYANGHOSU_STORE), BYANGHOSU_END_SLOT);
+    expect("a skip at the end slot", skip(BYANGHOSU_STORE, 1), BYANGHOSU_END_SLOT);
     expect("a response without rows", response(0), BYANGHOSU_RAN);
     expect("a response with as many rows as may be", response(rows), BYANGHOSU_RAN);
     expect("a response with a row too many", response(rows + BYANGHOSU_ROW), BYANGHOSU_BAD_TABLE);

@@ -22,8 +22,8 @@ static void open_stream(void) {
 }
 static void offer(void) { number = byanghosu_offer(store, BYANGHOSU_STORE, 0, 2, &first, &second, &place); }
 static void slot(void) { first = byanghosu_slot(store, BYANGHOSU_STORE, out, ROOM, &number, &place); }
-static void idle(void) { first = byanghosu_idle(store, BYANGHOSU_STORE); }
-static void skip(void) { first = byanghosu_skip(store, BYANGHOSU_STORE, 1); }
+static void idle(void) { number = byanghosu_idle(store, BYANGHOSU_STORE, &first, &place); }
+static void skip(void) { number = byanghosu_skip(store, BYANGHOSU_STORE, 1, &first, &place); }
 static void sound(void) { number = !byanghosu_sound(store, BYANGHOSU_STORE); }
 static void response(void) {
     number = byanghosu_response(table, BYANGHOSU_ROW * BYANGHOSU_MOST_ROWS, 1, 60000, &first, &second, &place);

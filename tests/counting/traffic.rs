@@ -21,6 +21,7 @@ pub struct Counts {
     // by number, 0 where it ran
     offers: Times<u64>,
     slots: Times<u64>,
+    waits: Times<u64>,
     // links in all slots that ran
     link_slots: u64,
     sends: u64,
@@ -41,6 +42,10 @@ impl Counts {
 
     pub fn slot(&mut self, number: u64) {
         self.slots.add(number, 1);
+    }
+
+    pub fn wait(&mut self, answer: Result<u64, u64>) {
+        self.waits.add(answer.map_or_else(|number| number, |_| 0), 1);
     }
 
     // What a slot answered, in a network of so many links.
@@ -82,6 +87,7 @@ impl Counts {
         println!("traffic: sends by place on the route {:?}", self.places);
         println!("traffic: {:?}", self.kinds);
         println!("traffic: {} offers, by number {:?}", self.offers.all(), self.offers);
+        println!("traffic: {} waits and skips, by number {:?}", self.waits.all(), self.waits);
         println!("traffic: 17 looked at last, by what the later store would break: {:?}", self.later);
     }
 
@@ -92,6 +98,9 @@ impl Counts {
         }
         for number in [0, 14, 15, 17] {
             enough(&format!("slot {number}"), self.slots.of(&number), 500);
+        }
+        for number in [0, 14, 17] {
+            enough(&format!("wait {number}"), self.waits.of(&number), 200);
         }
         for place in 0..8 {
             enough(&format!("a send at place {place}"), self.places.of(&place), self.ran() / 100);

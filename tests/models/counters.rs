@@ -99,22 +99,19 @@ pub fn offer(store: &mut [u64], c: u64, packets: u64) -> Result<(u64, u64), Refu
 }
 
 // How many slots no link can send in.
-pub fn idle(store: &[u64]) -> u64 {
-    if !broken(store).0.is_empty() {
-        return 0;
-    }
+pub fn idle(store: &[u64]) -> Result<u64, Refused> {
+    refused_unless(broken(store).0.is_empty(), 17)?;
     let room = Room::read(store).unwrap();
+    refused_unless(room.clock < END_SLOT, 14)?;
     let wait = |l: usize, head: Head| head.logical.saturating_sub(room.clock + room.links[l].horizon);
     let waits = (0..room.links.len()).flat_map(|l| heads(&room, l).into_iter().map(move |head| (l, head)));
     let left = END_SLOT - room.clock;
-    waits.map(|(l, head)| wait(l, head)).min().map_or(left, |wait| wait.min(left))
+    Ok(waits.map(|(l, head)| wait(l, head)).min().map_or(left, |wait| wait.min(left)))
 }
 
 // How many of them are skipped, and what that leaves in the store.
-pub fn skip(store: &mut [u64], count: u64) -> u64 {
-    let slots = idle(store).min(count);
-    if slots > 0 {
-        store[2] += slots;
-    }
-    slots
+pub fn skip(store: &mut [u64], count: u64) -> Result<u64, Refused> {
+    let slots = idle(store)?.min(count);
+    store[2] += slots;
+    Ok(slots)
 }

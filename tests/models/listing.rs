@@ -78,7 +78,7 @@ impl Listing {
                 Ok(sends) => {
                     self.sends(&sends);
                     left -= 1;
-                    let idle = if sends.is_empty() { self.network.idle().min(left) } else { 0 };
+                    let idle = if sends.is_empty() { self.network.idle().map_or(0, |idle| idle.min(left)) } else { 0 };
                     self.network.slot += idle;
                     left -= idle;
                 }

@@ -194,10 +194,13 @@ impl Network {
     }
 
     // How many slots from now no packet that is held may be sent in.
-    pub fn idle(&self) -> u64 {
+    pub fn idle(&self) -> Result<u64, u64> {
+        if self.slot == END_SLOT {
+            return Err(14);
+        }
         let first = |line: &Line| line.held.iter().map(|packet| packet.logical.saturating_sub(line.horizon)).min();
         let first = self.lines.iter().filter_map(first).min().unwrap_or(END_SLOT).min(END_SLOT);
-        first.saturating_sub(self.slot)
+        Ok(first.saturating_sub(self.slot))
     }
 
     // What a channel holds at a place of its route fits, and all that the link there holds.

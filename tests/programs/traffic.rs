@@ -92,9 +92,9 @@ const WORKED: [(&str, &str); 9] = [
     ),
     (
         "link 0 1 3 64, open 1 14 14 2 0, offer 0 1, skip 9, tick 1, offer 0 1, skip 9, skip 9, tick 1, \
-         skip 2000000000000, tick 1",
+         skip 2000000000000, skip 1, tick 1",
         "links 1, channel 0 1/14/2, accept 0 0 0, skipped 0, send 0 0 0 0 0, slot 1, accept 0 1 14, skipped 9, skipped 1, \
-         send 11 0 0 1 0, slot 12, skipped 999999999988, refused 14 0, slot 1000000000000",
+         send 11 0 0 1 0, slot 12, skipped 999999999988, refused 14 0, refused 14 0, slot 1000000000000",
     ),
     // B 2, p 10, accepted 0 and 10: slot 9 refused, slot 10 gives 20; slot 25 gives 25
     (
@@ -146,7 +146,10 @@ fn line(live: &mut Live, line: &str) -> Vec<String> {
             Err(number) => vec![format!("refused {number} 0")],
         },
         ("tick", [slots]) => tick(live, *slots),
-        ("skip", [slots]) => vec![format!("skipped {}", live.skip(*slots))],
+        ("skip", [slots]) => match live.skip(*slots) {
+            Ok(skipped) => vec![format!("skipped {skipped}")],
+            Err(number) => vec![format!("refused {number} 0")],
+        },
         ("message", [channel, packets, logical]) => {
             live.put(*channel, *packets, *logical);
             vec![]

@@ -70,7 +70,7 @@ impl<'a> Author<'a> {
         let slots = match random.to(30) {
             0 => random.pick(&[left, left + 1, left.max(1) - 1, u64::MAX]),
             1 => random.to(left),
-            _ => random.pick(&[self.network().idle().min(200_000), random.to(2_000), random.to(200_000)]),
+            _ => random.pick(&[self.network().idle().unwrap_or(0).min(200_000), random.to(2_000), random.to(200_000)]),
         };
         self.say("tick", &[slots]);
     }

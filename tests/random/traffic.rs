@@ -12,9 +12,13 @@ use crate::models::room::{Room, END_SLOT, STORE};
 impl Live<'_> {
     // A long wait slot by slot, in which nothing is sent; then the same at once; then, as a rule, a slot that sends.
     fn wait(&mut self) {
-        let (slots, random) = (self.idle(), self.random);
+        let random = self.random;
+        let Ok(slots) = self.idle() else {
+            let _ = self.skip(random.pick(&[0, 1, u64::MAX]));
+            return;
+        };
         if slots > 400 {
-            self.skip(random.pick(&[slots - 1 - random.to(9), slots, slots + 1, random.to(slots), u64::MAX]));
+            let _ = self.skip(random.pick(&[slots - 1 - random.to(9), slots, slots + 1, random.to(slots), u64::MAX]));
             self.settle();
             return;
         }
@@ -25,7 +29,7 @@ impl Live<'_> {
         self.settle();
         self.network.slot = clock;
         self.calls.questions.put(2, &[clock]);
-        self.skip(random.pick(&[slots, slots, slots + 1, slots.max(1) - 1, u64::MAX]));
+        let _ = self.skip(random.pick(&[slots, slots, slots + 1, slots.max(1) - 1, u64::MAX]));
         self.settle();
         if clock + slots < END_SLOT && self.network.slot == clock + slots {
             let sends = self.slot(80).map_or(0, |sends| sends.len());
@@ -91,7 +95,7 @@ impl Live<'_> {
         let mut loads = Loads::new(random);
         loads.add(random, &self.network);
         if random.chance(12) {
-            self.skip(END_SLOT - random.to(2 * slots));
+            let _ = self.skip(END_SLOT - random.to(2 * slots));
         }
         let until = self.calls.counts.ran() + slots;
         let mut at_the_end = 0;

@@ -184,7 +184,7 @@ impl Calls<'_> {
         self.offer(STORE, 0, 1, "in a crammed room");
     }
 
-    // A room that breaks one rule: 17 or 0 from each call, and nothing changes.
+    // A room that breaks one rule: 17 from each call, and nothing changes.
     pub fn flawed_room(&mut self, flaw: &str, n: u64) {
         let (length, store) = flawed_store(self.random, flaw, n, &self.questions.store);
         self.questions.become_store(&store);

@@ -7,6 +7,7 @@ use open_rules::Outcome;
 use response::Answer;
 use response::Reply;
 use setup::SetUp;
+use slot_rules::Waited;
 ghost use mathlib.Core.Path.{_≡_};
 ghost use Rattle.open_rules.specs.Open.{openAnswer, openStore, valuesOf as openValues};
 ghost use Rattle.store.specs.Sound.{soundOf};
@@ -15,7 +16,7 @@ ghost use Rattle.response.specs.Alone.{valuesOf, aloneOn};
 ghost use lib.ListN.{length};
 ghost use Rattle.offer_rules.specs.Offer.{offerAnswer, offerStore, valuesOf as offerValues};
 ghost use Rattle.slot_rules.specs.Slot.{slotNumber, slotPlace, slotSent, slotStore, slotOut};
-ghost use Rattle.slot_rules.specs.Idle.{idleOf, skipped, skipStore};
+ghost use Rattle.slot_rules.specs.Idle.{idleAnswer, skipAnswer, skipStore, valuesOf as waitedValues};
 
 // The response-time calculation by itself. `table` has C, p and delay of each row in turn, highest priority first.
 #[no_mangle]
@@ -180,21 +181,43 @@ pub extern "C" fn byanghosu_slot(
     slot::run(store, out, number, place)
 }
 
-// How many slots from now no link can send in, if nothing is offered.
-#[no_mangle]
-pub extern "C" fn byanghosu_idle(store: &[u64]) -> u64
-    ensures { λ r. ⌜ r ≡ idleOf (now (store .entry)) ⌝ }
+// What a wait answers, as numbers: `slots` takes how many slots where it is not refused.
+fn told(waited: Waited, slots: &mut u64, place: &mut u64) -> u64
+    ensures { λ r. ⌜ record { number = r; place = now (place .exit); slots = now (slots .exit) }
+        ≡ waitedValues waited (now (slots .entry)) ⌝ }
 {
-    slot_wait::idle(store)
+    match waited {
+        Waited::Slots(count) => {
+            *slots = count;
+            *place = 0;
+            0
+        }
+        Waited::Refused(number, at) => {
+            *place = at;
+            number
+        }
+    }
 }
 
-// Moves the clock on over such slots, `n` of them or as many as there are, and returns how many.
+// How many slots from now no link can send in, if nothing is offered.
 #[no_mangle]
-pub extern "C" fn byanghosu_skip(store: &mut [u64], n: u64) -> u64
-    ensures { λ r. ⌜ r ≡ skipped (now (store .entry)) n ⌝ }
+pub extern "C" fn byanghosu_idle(store: &[u64], slots: &mut u64, place: &mut u64) -> u64
+    ensures { λ r. ⌜ record { number = r; place = now (place .exit); slots = now (slots .exit) }
+        ≡ waitedValues (idleAnswer (now (store .entry))) (now (slots .entry)) ⌝ }
+{
+    let waited = slot_wait::idle(store);
+    told(waited, slots, place)
+}
+
+// Moves the clock on over such slots, `n` of them or as many as there are; `slots` takes how many.
+#[no_mangle]
+pub extern "C" fn byanghosu_skip(store: &mut [u64], n: u64, slots: &mut u64, place: &mut u64) -> u64
+    ensures { λ r. ⌜ record { number = r; place = now (place .exit); slots = now (slots .exit) }
+        ≡ waitedValues (skipAnswer (now (store .entry)) n) (now (slots .entry)) ⌝ }
     ensures { λ _. ⌜ now (store .exit) ≡ skipStore (now (store .entry)) n ⌝ }
 {
-    slot_wait::skip(store, n)
+    let waited = slot_wait::skip(store, n);
+    told(waited, slots, place)
 }
 
 // Whether a store is sound. Every other call asks this by itself.

@@ -9,9 +9,11 @@ use Rattle.text_decimal.specs.Put.{putAt, partOf}
 use Rattle.text_decimal.proofs.Laws.Put.{take-put, part-put}
 use Rattle.store.specs.Layout.{Store, linksOf}
 use Rattle.slot_rules.specs.declared.Turn.the-variants.{Ran, Refused}
+use Rattle.slot_rules.specs.declared.Waited.the-variants.{Slots, Refused as Waited·Refused}
 use Rattle.slot_rules.specs.Slot.{slotSends, moved, slotTurn}
-use Rattle.slot_rules.specs.Idle.{skipped, skipStore}
+use Rattle.slot_rules.specs.Idle.{skipAnswer, skipStore}
 use Rattle.slot.proofs.Laws.{Ends}
+use Rattle.slot_wait.proofs.Skipped.{skip-stays}
 use Rattle.script_listing.specs.Listing.{refusedWord, sendLines, refusedLine, sendLinesIn}
 use Rattle.script_listing.proofs.Laws.Lengths.{line-length, sends-length}
 use Rattle.script_listing.proofs.Laws.Sends.{sends-listed}
@@ -102,8 +104,7 @@ module _ (w : Store) (lent : List ℕ) (wide : length lent ≡ sendRoom) (count 
           (omega (arith, sends-length sent count, sends-few)) (omega arith)
 
       -- and sent nothing: then slots may be skipped
-      module _ (none : count ≡ 0) (last : Store) (skips : ℕ) (a : skips ≡ skipped later (left - 1))
-          (b : last ≡ skipStore later (left - 1)) where
+      module _ (none : count ≡ 0) (last : Store) (b : last ≡ skipStore later (left - 1)) where
         links : 5 * linksOf later ≤ sendRoom
         links = rw moved-on (ran-links w ran)
 
@@ -111,11 +112,19 @@ module _ (w : Store) (lent : List ℕ) (wide : length lent ≡ sendRoom) (count 
         unfolding sendLinesIn
         quiet = rw none at listed
 
-        pub step-still : Goes w left out at last (left - 1 - skips) out at
-        step-still = (
-          rw (a, b, part-none out at) (quiet ∙ skip-out later links (left - 1) (left - 1) (omega arith)),
+        pub step-still : (slots : ℕ) → skipAnswer later (left - 1) ≡ Slots slots
+            → Goes w left out at last (left - 1 - slots) out at
+        step-still slots a = (
+          rw (b, part-none out at) (quiet ∙ skip-out later links (left - 1) a (left - 1) (omega arith)),
           (
-            rw (a, b) (stored ∙ skip-store later links (left - 1) (left - 1) (omega arith)),
+            rw b (stored ∙ skip-store later links (left - 1) a (left - 1) (omega arith)),
             (refl, (((omega arith), (omega arith)), (omega arith))),
           ),
         )
+
+        -- or the clock is at the end slot
+        pub step-end : (why place : ℕ) → skipAnswer later (left - 1) ≡ Waited·Refused why place
+            → Goes w left out at last (left - 1) out at
+        step-end why place a =
+            let s = b ∙ skip-stays later (left - 1) a in
+            (rw (s, part-none out at) quiet, (rw s stored, (refl, (((omega arith), (omega arith)), (omega arith)))))

@@ -3,6 +3,7 @@
 use kinds::Network;
 use script_listing::BUFFER;
 use script_listing::LAST_FOR_SLOT;
+use slot_rules::Waited;
 use store::head;
 ghost use mathlib.Core.Path.{_≡_};
 ghost use mathlib.Core.Bool.{false};
@@ -48,7 +49,9 @@ fn step(store: &mut [u64; store::LENGTH], left: u64, out: &mut [u8; BUFFER], at:
     }
     let rest = left - 1;
     if count == 0 {
-        let skipped = slot_wait::skip(store, rest);
+        let Waited::Slots(skipped) = slot_wait::skip(store, rest) else {
+            return Stepped { at: at, left: rest };
+        };
         let later = rest - skipped;
         return Stepped {
             at: at,

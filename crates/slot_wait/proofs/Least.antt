@@ -7,9 +7,7 @@ use native.Mathlib.Omega.{arith}
 use Rattle.kinds.specs.Ranges.{endSlot}
 use Rattle.store.specs.Layout.{Store, Long, linksOf, clockOf, horizonOf, rowsOf}
 use Rattle.folds.specs.Folds.{firstNot}
-use Rattle.store.specs.Sound.{soundOf}
 use Rattle.folds.proofs.Folds.{below, every-at, first-is, first-most}
-use Rattle.store.proofs.Laws.Sound.{sound-fit}
 use Rattle.slot_rules.specs.Pick.{rowHeld, rowLogical}
 use Rattle.slot_rules.specs.Idle.{quiet, idleOf}
 use Rattle.slot_wait.specs.Least.{leastOf, waitOf, leastOn, leastTo}
@@ -116,16 +114,12 @@ module _ (w : Store) where
             let z : _≡_ {A = ℕ} 0 1 = cc (q, f) in
             omega arith
 
-  pub idle-none : soundOf w ≡ false → idleOf w ≡ 0
+  pub idle-first : idleOf w ≡ firstNot (quiet w) (endSlot - clockOf w)
   unfolding idleOf
-  idle-none e = rw (e, idleOf)
+  idle-first = refl
 
-  pub idle-first : soundOf w ≡ true → idleOf w ≡ firstNot (quiet w) (endSlot - clockOf w)
-  unfolding idleOf
-  idle-first e = rw (e, idleOf)
+  pub idle-most : idleOf w ≤ endSlot - clockOf w
+  idle-most = rw idle-first (first-most (quiet w) (endSlot - clockOf w))
 
-  pub idle-most : soundOf w ≡ true → idleOf w ≤ endSlot - clockOf w
-  idle-most e = rw (idle-first e) (first-most (quiet w) (endSlot - clockOf w))
-
-  pub idle-least : soundOf w ≡ true → idleOf w ≡ leastTo w (linksOf w)
-  idle-least e = idle-first e ∙ least-first (sound-fit w e .long)
+  pub idle-least : Long w → idleOf w ≡ leastTo w (linksOf w)
+  idle-least long = idle-first ∙ least-first long

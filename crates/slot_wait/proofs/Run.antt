@@ -2,10 +2,11 @@
 -- `idleOf` does send, unless the clock is at the end slot then.
 use Prim.Native.Nat.{ℕ, zero, suc, _+_, _-_, _*_, _≤_, _<_}
 use mathlib.Core.Path.{_≡_, refl, sym, _∙_}
-use mathlib.Core.Bool.{Bool, true, false}
+use mathlib.Core.Bool.{true}
 use mathlib.Core.List.{List, [], _∷_, _++_}
 use native.Mathlib.Nat.{min-le-right}
 use native.Mathlib.Omega.{arith}
+use lib.ListN.{drop}
 use lib.Seq.{set-set}
 use borrow.Author.Tests.{lt-ltb, le-leb}
 use Rattle.kinds.specs.Ranges.{endSlot}
@@ -14,16 +15,18 @@ use Rattle.store.specs.Sound.{soundOf}
 use Rattle.folds.specs.Folds.{firstNot}
 use Rattle.folds.proofs.Folds.{below, every-at, first-is}
 use Rattle.store.proofs.Laws.Sound.{sound-fit}
-use Rattle.checks.proofs.Laws.{all-passed}
+use Rattle.checks.proofs.Laws.{failed-append, all-passed, refused-as}
 use Rattle.slot_rules.specs.declared.Turn.the-variants.{Ran, Refused}
+use Rattle.slot_rules.specs.declared.Waited.{Waited}
+use Rattle.slot_rules.specs.declared.Waited.the-variants.{Slots, Refused as Waited·Refused}
 use Rattle.slot_rules.specs.Pick.{pickOf}
 use Rattle.slot_rules.specs.Slot.{Send, sendFrom, sendsTo, slotSends, movedTo, moved, slotChecks, slotTurn, slotSent, slotStore}
-use Rattle.slot_rules.specs.Idle.{quiet, idleOf, skipped, skipStore}
+use Rattle.slot_rules.specs.Idle.{quiet, idleOf, skipped, waitChecks, skipAnswer, skipStore}
 use Rattle.slot_wait.specs.Run.{run}
 use Rattle.slot_wait.proofs.Clock.{clock-set, clock-stays, links-same, clock-sound}
 use Rattle.slot_wait.proofs.Quiet.{quiet-rests, rests-quiet}
-use Rattle.slot_wait.proofs.Least.{idle-none, idle-first, idle-most}
-use Rattle.slot_wait.proofs.Skipped.{skip-none, skip-sound}
+use Rattle.slot_wait.proofs.Least.{idle-first, idle-most}
+use Rattle.slot_wait.proofs.Skipped.{skip-stays, skip-holds, skip-slots, skip-clock}
 
 -- the first n links pick none
 abbrev NonePicked : Store → (n : ℕ) → Type 0
@@ -88,7 +91,7 @@ module _ (w : Store) (e : soundOf w ≡ true) where
   idle-quiet : (i : ℕ) → i < idleOf w → quiet w i ≡ true
   idle-quiet i h =
       every-at (quiet w) (firstNot (quiet w) (endSlot - clockOf w)) (first-is (quiet w) (endSlot - clockOf w) .before) i
-      (rw (idle-first w e) at h)
+      (rw (idle-first w) at h)
 
   clock-is : (i : ℕ) → clockOf (withClock w (clockOf w + i)) ≡ clockOf w + i
   clock-is i = clock-set w (clockOf w + i) (sound-fit w e .long)
@@ -96,8 +99,8 @@ module _ (w : Store) (e : soundOf w ≡ true) where
   -- no more of them: the slot after them sends
   pub idle-ends : idleOf w < endSlot - clockOf w → slotSends (withClock w (clockOf w + idleOf w)) ≡ [] → ⊥
   idle-ends h s =
-      let f = first-is (quiet w) (endSlot - clockOf w) .fails (rw (idle-first w e) at h) in
-      let z : _≡_ {A = ℕ} 0 1 = cc (still-quiet, idle-first w e, f) in
+      let f = first-is (quiet w) (endSlot - clockOf w) .fails (rw (idle-first w) at h) in
+      let z : _≡_ {A = ℕ} 0 1 = cc (still-quiet, idle-first w, f) in
       omega arith
     where
       still-quiet : quiet w (idleOf w) ≡ true
@@ -109,8 +112,8 @@ module _ (w : Store) (e : soundOf w ≡ true) where
     -- the slots up to `idleOf`, one by one
     idle-still : (i : ℕ) → i < idleOf w → Still (withClock w (clockOf w + i)) size
     idle-still i h = record {
-      sound = clock-sound w (clockOf w + i) e (omega (arith, idle-most w e));
-      clock = rw (clock-is i) (omega (arith, idle-most w e));
+      sound = clock-sound w (clockOf w + i) e (omega (arith, idle-most w));
+      clock = rw (clock-is i) (omega (arith, idle-most w));
       wide = rw (links-same w (clockOf w + i)) wide;
       none = rw (links-same w (clockOf w + i)) (quiet-rests w i (idle-quiet i h));
     }
@@ -133,13 +136,27 @@ module _ (w : Store) (e : soundOf w ≡ true) where
     pub run-sent : (i : ℕ) → i < idleOf w → slotSent (run w size i) size ≡ []
     run-sent i h = rw (run-clock i (omega arith)) (still-sent (idle-still i h))
 
--- so a skip is a run of as many slots, in any store: where it is not sound, of none
+-- a skip is refused as a slot is, and a refused slot leaves the store: so does any number of them
+module _ (w : Store) (size : ℕ) {number place : ℕ} where
+  refused-turn : (n : ℕ) → skipAnswer w n ≡ Waited·Refused number place → slotTurn w size ≡ Refused number place
+  unfolding skipAnswer slotTurn
+  refused-turn n e =
+      failed-append Refused (waitChecks w) (drop 2 (slotChecks w size)) Ran
+      ∙ refused-as Waited·Refused Refused (λ m n i at s. ((cc), (cc))) (waitChecks w) _ _ number place
+      (λ s. let z : _≡_ {A = ℕ} 0 1 = cc in omega arith) e
+
+  refused-run : slotTurn w size ≡ Refused number place → (m : ℕ) → run w size m ≡ w
+  unfolding run
+  refused-run e zero = refl
+  refused-run e (suc m) = rw (refused-run e m, e)
+
+-- so a skip is a run of as many slots, in any store
 pub skip-runs : (w : Store) (size n : ℕ) → 5 * linksOf w ≤ size → skipStore w n ≡ run w size (skipped w n)
-unfolding run
-skip-runs w size n wide = go (soundOf w) refl
+skip-runs w size n wide = go (skipAnswer w n) refl
   where
-    go : (t : Bool) → soundOf w ≡ t → skipStore w n ≡ run w size (skipped w n)
-    go true e = skip-sound w n e ∙ sym (run-clock w e size wide (skipped w n) (min-le-right n (idleOf w)))
-    go false e =
-        let z : skipped w n ≡ 0 = omega (arith, idle-none w e) in
-        rw z (skip-none w n z)
+    go : (a : Waited) → skipAnswer w n ≡ a → skipStore w n ≡ run w size (skipped w n)
+    go (Slots slots) e =
+        skip-clock w n e
+        ∙ rw (skip-slots w n e)
+        (sym (run-clock w (skip-holds w n e .0) size wide (skipped w n) (min-le-right n (idleOf w))))
+    go (Waited·Refused number place) e = skip-stays w n e ∙ sym (refused-run w size (refused-turn w size n e) (skipped w n))

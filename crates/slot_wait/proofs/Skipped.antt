@@ -1,48 +1,73 @@
--- What a skip leaves, by whether any slot is skipped.
-use Prim.Native.Nat.{ℕ, _+_, _≤_}
-use mathlib.Core.Path.{_≡_, refl, sym, _∙_}
-use mathlib.Core.Bool.{Bool, true, false}
+-- What the two calls answer and what a skip leaves, by whether the checks hold.
+use Prim.Native.Nat.{ℕ, _+_, _≤_, min}
+use mathlib.Core.Path.{_≡_}
+use mathlib.Core.Bool.{false}
+use mathlib.Core.List.{List, _∷_}
 use native.Mathlib.Omega.{arith}
+use lib.ListN.{take, drop}
 use Rattle.kinds.specs.Ranges.{endSlot}
-use Rattle.store.specs.Layout.{Store, withClock, clockOf}
-use Rattle.store.specs.Sound.{soundOf}
-use Rattle.store.proofs.Laws.Sound.{sound-is}
-use Rattle.slot_rules.specs.Idle.{skipped, skipStore}
-use Rattle.slot_wait.proofs.Clock.{clock-stays}
-use Rattle.slot_wait.proofs.Least.{idle-none, idle-most}
+use Rattle.store.specs.Layout.{Store, Long, withClock, clockOf}
+use Rattle.store.proofs.Laws.Sound.{Sound, sound-is}
+use Rattle.checks.specs.Checks.{Check}
+use Rattle.checks.proofs.Laws.{AllHold, all-passed, fails-after, accepted-all, refused-as}
+use Rattle.slot_rules.specs.declared.Waited.the-variants.{Slots, Refused}
+use Rattle.slot_rules.specs.Idle.{idleOf, skipped, waitChecks, idleAnswer, skipAnswer, skipStore}
+use Rattle.slot_wait.proofs.Least.{idle-most}
 
-module _ (w : Store) (n : ℕ) where
-  pub skip-sound : soundOf w ≡ true → skipStore w n ≡ withClock w (clockOf w + skipped w n)
-  unfolding skipStore
-  skip-sound e = rw (e, skipStore)
+module _ (w : Store) where
+  pub idle-refused : {x : Check} {rest : List Check} (k : ℕ) → drop k (waitChecks w) ≡ x ∷ rest → AllHold (take k (waitChecks w))
+      → x .holds ≡ false → Refused (x .number) (x .place) ≡ idleAnswer w
+  unfolding idleAnswer
+  idle-refused k e h f = fails-after Refused (waitChecks w) k (Slots (idleOf w)) e h f
 
-  pub skip-none : skipped w n ≡ 0 → skipStore w n ≡ w
-  unfolding skipStore
-  skip-none z = go (soundOf w) refl
-    where
-      go : (t : Bool) → soundOf w ≡ t → skipStore w n ≡ w
-      go true e = rw (e, skipStore) (clock-stays w (skipped w n) z)
-      go false e = rw (e, skipStore)
+  pub idle-slots : AllHold (waitChecks w) → idleAnswer w ≡ Slots (idleOf w)
+  unfolding idleAnswer
+  idle-slots h = all-passed Refused (waitChecks w) (Slots (idleOf w)) h
 
-  -- as the code works it out
-  module _ {slots : ℕ} (s : slots ≡ skipped w n) where
-    pub skips-none : slots ≡ 0 → (0 ≡ skipped w n) × (w ≡ skipStore w n)
-    skips-none z =
-        let e : skipped w n ≡ 0 = sym s ∙ z in
-        (sym e, sym (skip-none e))
+  -- what a skip leaves: nothing changed where it is refused, and else the clock moved on
+  module _ (n : ℕ) where
+    pub skip-stays : {number place : ℕ} → skipAnswer w n ≡ Refused number place → skipStore w n ≡ w
+    unfolding skipStore
+    skip-stays e = rw (e, skipStore)
 
-    -- slots are skipped only in a sound store, and not past the end slot
-    pub some-sound : (slots ≡ 0 → ⊥) → soundOf w ≡ true
-    some-sound z = go (soundOf w) refl
-      where
-        go : (t : Bool) → soundOf w ≡ t → soundOf w ≡ true
-        go true e = e
-        go false e = absurd (z (omega (arith, idle-none w e)))
+    module _ {slots : ℕ} (e : skipAnswer w n ≡ Slots slots) where
+      pub skip-clock : skipStore w n ≡ withClock w (clockOf w + slots)
+      unfolding skipStore
+      skip-clock = rw (e, skipStore)
 
-    pub some-fits : (slots ≡ 0 → ⊥) → clockOf w + slots ≤ endSlot
-    some-fits z =
-        let e = some-sound z in
-        omega (arith, idle-most w e, sound-is w e .counts .clock-most)
+      pub skip-holds : AllHold (waitChecks w)
+      unfolding skipAnswer
+      skip-holds = accepted-all Refused (waitChecks w) _ _ (λ m at s. let z : _≡_ {A = ℕ} 0 1 = cc in omega arith) e
 
-    pub skips-some : (slots ≡ 0 → ⊥) → {clock : ℕ} → clock ≡ clockOf w → withClock w (clock + slots) ≡ skipStore w n
-    skips-some z e = rw (e, s) (sym (skip-sound (some-sound z)))
+      pub skip-slots : slots ≡ skipped w n
+      unfolding skipAnswer
+      skip-slots = cc (e, all-passed Refused (waitChecks w) (Slots (skipped w n)) skip-holds)
+
+    -- what it answers, from what `idle` does
+    pub skip-refused : {number place : ℕ} → idleAnswer w ≡ Refused number place → skipAnswer w n ≡ Refused number place
+    unfolding idleAnswer skipAnswer
+    skip-refused {number} {place} e =
+        refused-as Refused Refused (λ m n i at s. ((cc), (cc))) (waitChecks w) _ _ number place
+        (λ s. let z : _≡_ {A = ℕ} 0 1 = cc in omega arith) e
+
+  module _ {most : ℕ} (e : idleAnswer w ≡ Slots most) where
+    idle-holds : AllHold (waitChecks w)
+    unfolding idleAnswer
+    idle-holds = accepted-all Refused (waitChecks w) _ _ (λ m at s. let z : _≡_ {A = ℕ} 0 1 = cc in omega arith) e
+
+    idle-is : most ≡ idleOf w
+    idle-is = cc (e, idle-slots idle-holds)
+
+    sound : Sound w
+    sound = sound-is w (idle-holds .0)
+
+    pub idle-long : Long w
+    idle-long = sound .long
+
+    module _ (n : ℕ) where
+      pub skip-some : skipAnswer w n ≡ Slots (min n most)
+      unfolding skipAnswer
+      skip-some = rw idle-is (all-passed Refused (waitChecks w) (Slots (skipped w n)) idle-holds)
+
+      pub skip-fits : clockOf w + min n most ≤ endSlot
+      skip-fits = omega (arith, idle-is, idle-most w, sound .counts .clock-most)

@@ -4,8 +4,7 @@ use mathlib.Core.Path.{_≡_, sym, _∙_}
 use mathlib.Core.Bool.{Bool, true, false}
 use native.Mathlib.Omega.{arith}
 use Rattle.kinds.specs.Ranges.{endSlot}
-use Rattle.store.specs.Layout.{Store, linksOf, clockOf, horizonOf}
-use Rattle.store.specs.Sound.{soundOf}
+use Rattle.store.specs.Layout.{Store, Long, linksOf, clockOf, horizonOf}
 use Rattle.store.proofs.Laws.Rows.{Row}
 use Rattle.slot_rules.specs.Head.{logicalOf}
 use Rattle.slot_rules.specs.Idle.{idleOf}
@@ -51,7 +50,7 @@ module _ (w : Store) where
     pub linking-more : l < linksOf w → (v : ℕ) → v ≡ leastOn w l least → Linking w (l + 1) v
     linking-more h v e = record { place = omega arith; same = rw (e, a .same) (sym (least-more w l)) }
 
-    pub linking-done : soundOf w ≡ true → linksOf w ≤ l → least ≡ idleOf w
-    linking-done s h =
+    pub linking-done : Long w → linksOf w ≤ l → least ≡ idleOf w
+    linking-done long h =
         let e : l ≡ linksOf w = omega (arith, a .place) in
-        (rw e at (a .same)) ∙ sym (idle-least w s)
+        (rw e at (a .same)) ∙ sym (idle-least w long)

@@ -1,5 +1,6 @@
 // Long waits: how many slots from now no link can send in, and the clock moved on over them.
 use kinds::Slot;
+use slot_rules::Waited;
 use store::channel;
 use store::head;
 use store::link;
@@ -8,7 +9,7 @@ ghost use mathlib.Core.Bool.{true};
 ghost use Prim.Native.Nat.{_-_, _<_, min};
 ghost use Rattle.store.specs.Layout.{linksOf};
 ghost use Rattle.store.specs.Sound.{soundOf};
-ghost use Rattle.slot_rules.specs.Idle.{idleOf, skipped, skipStore};
+ghost use Rattle.slot_rules.specs.Idle.{idleAnswer, skipAnswer, skipStore};
 ghost use Rattle.slot_wait.specs.Least.{leastOn};
 
 fn smaller(a: u64, b: u64) -> u64
@@ -45,34 +46,39 @@ fn wait_on(store: &[u64], l: usize, most: u64) -> u64
     least
 }
 
-// How many slots from now no link can send in, one after the other, if nothing is offered: any numbers, and any length.
-pub fn idle(store: &[u64]) -> u64
-    ensures { λ r. ⌜ r ≡ idleOf (now (store .entry)) ⌝ }
+// How many slots from now no link can send in, one after the other, if nothing is offered; or why no slot runs: 17 and 14, in
+// this order. Any numbers, and any length.
+pub fn idle(store: &[u64]) -> Waited
+    ensures { λ r. ⌜ r ≡ idleAnswer (now (store .entry)) ⌝ }
 {
     if !sound::is_sound(store) {
-        return 0; // no slot runs
+        return Waited::Refused(17, 0);
+    }
+    let clock = head::clock(store);
+    if clock >= Slot::END {
+        return Waited::Refused(14, 0);
     }
     let links = head::links(store);
-    let mut least = Slot::END - head::clock(store);
+    let mut least = Slot::END - clock;
     let mut l: usize = 0;
     while l < links {
         least = wait_on(store, l, least);
         l += 1;
     }
-    least
+    Waited::Slots(least)
 }
 
-// The clock moves on over `n` of them, or as many as there are: how many.
-pub fn skip(store: &mut [u64], n: u64) -> u64
-    ensures { λ r. ⌜ r ≡ skipped (now (store .entry)) n ⌝ }
+// The clock moves on over `n` of them, or as many as there are: how many. The refusals are the same, and leave the store alone.
+pub fn skip(store: &mut [u64], n: u64) -> Waited
+    ensures { λ r. ⌜ r ≡ skipAnswer (now (store .entry)) n ⌝ }
     ensures { λ _. ⌜ now (store .exit) ≡ skipStore (now (store .entry)) n ⌝ }
 {
-    let most = idle(store);
+    let waited = idle(store);
+    let Waited::Slots(most) = waited else {
+        return waited;
+    };
     let slots = smaller(n, most);
-    if slots == 0 {
-        return 0;
-    }
     let clock = head::clock(store);
     head::put_clock(store, clock + slots);
-    slots
+    Waited::Slots(slots)
 }

@@ -23,10 +23,10 @@ pub byanghosu-slot : Unique byanghosu.byanghosu_slot.ended byanghosu.byanghosu_s
 byanghosu-slot κs a = whole (answer & first & second & third & fourth)
 
 pub byanghosu-idle : Unique byanghosu.byanghosu_idle.ended byanghosu.byanghosu_idle.Reads.Post
-byanghosu-idle κs a = whole answer
+byanghosu-idle κs a = whole (part (λ v o. (v .number, (tt, (v .slots, (v .place, tt))))))
 
 pub byanghosu-skip : Unique byanghosu.byanghosu_skip.ended byanghosu.byanghosu_skip.Reads.Post
-byanghosu-skip κs a = whole (answer & first)
+byanghosu-skip κs a = whole (part (λ v o. (v .number, (o .1 .0, (tt, (v .slots, (v .place, tt)))))) & first)
 
 pub byanghosu-sound : Unique byanghosu.byanghosu_sound.ended byanghosu.byanghosu_sound.Reads.Post
 byanghosu-sound κs a = whole answer

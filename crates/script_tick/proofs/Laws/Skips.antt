@@ -1,16 +1,15 @@
 -- Slots that are skipped change nothing in a tick: each of them would have run and sent nothing.
 use Prim.Native.Nat.{ℕ, zero, suc, _+_, _-_, _*_, _≤_, _<_}
-use mathlib.Core.Path.{_≡_, refl, _∙_, ap}
-use mathlib.Core.Bool.{Bool, true, false}
+use mathlib.Core.Path.{_≡_, _∙_, ap}
 use mathlib.Core.List.{[]}
 use native.Mathlib.Omega.{arith}
 use Rattle.store.specs.Layout.{Store, linksOf}
-use Rattle.store.specs.Sound.{soundOf}
 use Rattle.slot_rules.specs.declared.Turn.the-variants.{Ran}
+use Rattle.slot_rules.specs.declared.Waited.the-variants.{Slots}
 use Rattle.slot_rules.specs.Slot.{slotSends, slotTurn, slotSent}
-use Rattle.slot_rules.specs.Idle.{skipped, skipStore}
+use Rattle.slot_rules.specs.Idle.{skipAnswer, skipStore}
 use Rattle.slot_wait.specs.Run.{run}
-use Rattle.slot_wait.proofs.Least.{idle-none}
+use Rattle.slot_wait.proofs.Skipped.{skip-holds, skip-slots}
 use Rattle.slot_wait.proofs.Run.{run-turn, run-sent, skip-runs}
 use Rattle.script_listing.specs.Listing.{sendLines}
 use Rattle.script_tick.specs.Tick.{sendRoom, tickOut, tickStore}
@@ -58,30 +57,26 @@ module _ (w : Store) where
       let e : suc m + n ≡ m + suc n = omega arith in
       rw e (silent-store m (silent-fewer m s) (suc n) ∙ last-store m s n)
 
-module _ (w : Store) (wide : 5 * linksOf w ≤ sendRoom) (m : ℕ) where
-  -- so are those that are skipped; where the store is not sound, none is
-  skipped-silent : Silent w (skipped w m)
-  skipped-silent = go (soundOf w) refl
-    where
-      go : (t : Bool) → soundOf w ≡ t → Silent w (skipped w m)
-      go true e = record {
-        ran = λ i h. run-turn w e sendRoom wide i (omega arith);
-        none = λ i h. run-sent w e sendRoom wide i (omega arith);
-      }
-      go false e = record {
-        ran = λ i h. absurd (omega (arith, idle-none w e));
-        none = λ i h. absurd (omega (arith, idle-none w e));
-      }
+-- so are those that are skipped, of which there are no more than were asked for
+pub skip-few : (w : Store) (m : ℕ) {slots : ℕ} → skipAnswer w m ≡ Slots slots → slots ≤ m
+skip-few w m a = omega (arith, skip-slots w m a)
+
+module _ (w : Store) (wide : 5 * linksOf w ≤ sendRoom) (m : ℕ) {slots : ℕ} (a : skipAnswer w m ≡ Slots slots) where
+  silent : Silent w slots
+  silent = record {
+    ran = λ i h. run-turn w (skip-holds w m a .0) sendRoom wide i (omega (arith, skip-slots w m a));
+    none = λ i h. run-sent w (skip-holds w m a .0) sendRoom wide i (omega (arith, skip-slots w m a));
+  }
+
+  ran : skipStore w m ≡ after w slots
+  ran = rw (skip-slots w m a) (skip-runs w sendRoom m wide)
 
   module _ (n : ℕ) (h : m ≤ n) where
-    pub skip-out : tickOut w n ≡ tickOut (skipStore w m) (n - skipped w m)
-    skip-out =
-        let e : n ≡ skipped w m + (n - skipped w m) = omega arith in
-        rw (skip-runs w sendRoom m wide)
-        (ap (tickOut w) e ∙ silent-out w (skipped w m) skipped-silent (n - skipped w m))
+    split : n ≡ slots + (n - slots)
+    split = omega (arith, skip-few w m a)
 
-    pub skip-store : tickStore w n ≡ tickStore (skipStore w m) (n - skipped w m)
-    skip-store =
-        let e : n ≡ skipped w m + (n - skipped w m) = omega arith in
-        rw (skip-runs w sendRoom m wide)
-        (ap (tickStore w) e ∙ silent-store w (skipped w m) skipped-silent (n - skipped w m))
+    pub skip-out : tickOut w n ≡ tickOut (skipStore w m) (n - slots)
+    skip-out = rw ran (ap (tickOut w) split ∙ silent-out w slots silent (n - slots))
+
+    pub skip-store : tickStore w n ≡ tickStore (skipStore w m) (n - slots)
+    skip-store = rw ran (ap (tickStore w) split ∙ silent-store w slots silent (n - slots))

@@ -1,11 +1,14 @@
 -- `script_tick::step` meets its contract, by whether its slot was refused, sent nothing or sent.
-use Prim.Native.Nat.{ℕ}
-use mathlib.Core.Path.{refl}
+use Prim.Native.Nat.{ℕ, _-_}
+use mathlib.Core.Path.{_≡_, refl, sym, _∙_}
 use mathlib.Core.List.{List}
 use native.Mathlib.Omega.{arith}
 use borrow.Author.Needs.{needs}
 use lib.ListN.{replicate}
-use Rattle.script_tick.proofs.Steps.{sends-few, step-refused, step-still, step-sent}
+use Rattle.slot_rules.specs.declared.Waited.the-variants.{Slots}
+use Rattle.slot_rules.specs.Idle.{skipAnswer}
+use Rattle.script_tick.proofs.Laws.Skips.{skip-few}
+use Rattle.script_tick.proofs.Steps.{sends-few, step-refused, step-still, step-end, step-sent}
 use Rattle.script_tick.proofs.step.Statement.{statement}
 use Rattle.script_tick.proofs.step.Tie as tie
 
@@ -45,17 +48,41 @@ sub-rest c = search needs
 skip-requires : tie.Need-skip-requires
 skip-requires c κs = search needs
 
-sub-later : tie.Need-sub-later
-sub-later c = search needs
+enum-known-skipped : tie.Need-enum-known-skipped
+enum-known-skipped c = search needs
+
+enum-told : tie.Need-enum-told
+enum-told c = search needs
 
 returns-2 : tie.Need-returns-2
 returns-2 c =
-    let t = c .before .before in
+    let k = c .before .before in
+    let t = k .before .before in
     let e = t .before in
     let r = e .before .before in
     let s = start r in
-    step-still _ lent refl _ _ _ _ _ (r .run .ensures) (e .if1 .left) _ (s .pre .0) _ _ (s .pre .1) (t .if2 .taken) _ _
-    (c .skip .ensures .0) (c .skip .ensures .1)
+    step-end _ lent refl _ _ _ _ _ (r .run .ensures) (e .if1 .left) _ (s .pre .0) _ _ (s .pre .1) (t .if2 .taken) _
+    (k .skip .ensures .1) _ _ (sym (k .skip .ensures .0) ∙ c .enum-told .given .1)
+
+-- how many slots were skipped
+skips : (c : tie.After-skipped) → let k = c .before .before in
+    skipAnswer (k .before .before .before .before .before .run .last .0)
+    (start (k .before .before .before .before .before) .args .left - 1) ≡ Slots (c .skipped .given .0 .0)
+skips c = sym (c .before .before .skip .ensures .0) ∙ c .skipped .given .1
+
+sub-later : tie.Need-sub-later
+sub-later c = skip-few _ _ (skips (c .before))
+
+returns-3 : tie.Need-returns-3
+returns-3 c =
+    let w = c .before in
+    let k = w .before .before in
+    let t = k .before .before in
+    let e = t .before in
+    let r = e .before .before in
+    let s = start r in
+    step-still _ lent refl _ _ _ _ _ (r .run .ensures) (e .if1 .left) _ (s .pre .0) _ _ (s .pre .1) (t .if2 .taken) _
+    (k .skip .ensures .1) _ (skips w)
 
 slice-aggregate-sends : tie.Need-slice-aggregate-sends
 slice-aggregate-sends c = search needs
@@ -67,8 +94,8 @@ sends-requires c κs =
     let few = sends-few _ lent refl _ _ _ _ _ (r .run .ensures) (e .if1 .left) in
     ((omega (arith, few, r .run .kept .1 .0)), (omega (arith, few, c .before .sends-arg .given .0 .1)))
 
-returns-3 : tie.Need-returns-3
-returns-3 c =
+returns-4 : tie.Need-returns-4
+returns-4 c =
     let e = c .before .before .before .before in
     let r = e .before .before in
     let s = start r in
@@ -87,8 +114,11 @@ step-spec =
     returns
     sub-rest
     skip-requires
-    sub-later
+    enum-known-skipped
+    enum-told
     returns-2
+    sub-later
+    returns-3
     slice-aggregate-sends
     sends-requires
-    returns-3)
+    returns-4)
