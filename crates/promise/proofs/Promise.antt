@@ -33,7 +33,7 @@ use Rattle.promise.proofs.Holds.{never-over, in-order, conserved}
 use Rattle.promise.proofs.Open.{set-up-makes, open-keeps}
 use Rattle.promise.proofs.Offer.{offer-keeps}
 use Rattle.promise.proofs.Slot.{slot-call}
-use Rattle.promise.proofs.Skip.{skip-keeps, waits}
+use Rattle.promise.proofs.Skip.{skip-keeps, waits, idle-never, skip-never}
 use Rattle.promise.proofs.Slots.{slots}
 use Rattle.promise.proofs.Own.{own-answer}
 use Rattle.promise.proofs.Arrives.{never-late, arrives}
@@ -97,6 +97,8 @@ module _ {links : List ℕ} {w : Store} {h : List Event} (i : Invariant links w 
     (λ q. open-never w q (is-sound w (i .seen .sound))),
     (offer-never (i .seen) (i .steady) (i .burst)),
     (λ size e. slot-number size (slotTurn w size) refl (omega (arith, e))),
+    idle-never i,
+    skip-never i,
   )
 
 -- the invariant of every store that is reached

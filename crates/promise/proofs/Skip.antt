@@ -1,16 +1,22 @@
 -- A skip is so many slots, each of which runs and sends nothing: it keeps the invariant, and nothing has happened.
 use Prim.Native.Nat.{ℕ, zero, suc, _*_, _≤_, _<_}
 use mathlib.Core.Path.{_≡_, refl, _∙_, sym}
-use mathlib.Core.Bool.{true}
+use mathlib.Core.Logic.{_⊎_, inl, inr}
+use mathlib.Core.Bool.{Bool, true, false}
 use mathlib.Core.List.{List, append-nil}
 use native.Mathlib.Nat.{min-le-left, min-le-right}
 use native.Mathlib.Omega.{arith}
-use Rattle.store.specs.Layout.{Store, linksOf}
+use lib.Dec.{ltb}
+use borrow.Author.Tests.{ltb-false}
+use Rattle.kinds.specs.Ranges.{endSlot}
+use Rattle.store.specs.Layout.{Store, linksOf, clockOf}
 use Rattle.store.specs.Sound.{soundOf}
 use Rattle.store.proofs.Laws.Sound.{is-sound}
+use Rattle.checks.specs.Checks.{firstFailed}
 use Rattle.setup_list.specs.List.{linksIn}
 use Rattle.slot_rules.specs.Slot.{slotStore}
-use Rattle.slot_rules.specs.Idle.{idleOf, skipped, skipStore}
+use Rattle.slot_rules.specs.declared.Waited.the-variants.{Slots, Refused}
+use Rattle.slot_rules.specs.Idle.{idleOf, skipped, waitChecks, idleAnswer, skipAnswer, skipStore}
 use Rattle.slot_wait.specs.Run.{run}
 use Rattle.slot_wait.proofs.Run.{run-turn, run-sent, skip-runs}
 use Rattle.promise.specs.Calls.{Event}
@@ -45,10 +51,42 @@ module _ {links : List ℕ} {w : Store} {h : List Event} (i : Invariant links w 
   run-is zero = refl
   run-is (suc n) = rw (run-is n)
 
+  -- what the two calls answer: before the end slot so many slots, and at the end slot 14
+  wait-answer : (slots : ℕ) → (firstFailed Refused (waitChecks w) (Slots slots) ≡ Slots slots) ⊎ (endSlot ≤ clockOf w)
+  unfolding firstFailed
+  wait-answer slots = go (ltb (clockOf w) endSlot) refl
+    where
+      go : (t : Bool) → ltb (clockOf w) endSlot ≡ t
+          → (firstFailed Refused (waitChecks w) (Slots slots) ≡ Slots slots) ⊎ (endSlot ≤ clockOf w)
+      go true e = inl (rw (is-sound w (i .seen .sound), e))
+      go false e = inr (ltb-false (clockOf w) endSlot e)
+
+  wait-never : (slots place : ℕ) → firstFailed Refused (waitChecks w) (Slots slots) ≡ Refused 17 place → ⊥
+  unfolding firstFailed
+  wait-never slots place e = go (ltb (clockOf w) endSlot) refl (rw (is-sound w (i .seen .sound)) at e)
+    where
+      go : (t : Bool) → ltb (clockOf w) endSlot ≡ t
+          → elim (ltb (clockOf w) endSlot) [ true ↦ Slots slots | false ↦ Refused 14 0 ] ≡ Refused 17 place → ⊥
+      go true e f = let z : Slots slots ≡ Refused 17 place = rw e at f in let y : _≡_ {A = ℕ} 0 1 = cc z in omega arith
+      go false e f = let z : Refused 14 0 ≡ Refused 17 place = rw e at f in let y : _≡_ {A = ℕ} 14 17 = cc z in omega arith
+
+  pub idle-never : (place : ℕ) → idleAnswer w ≡ Refused 17 place → ⊥
+  unfolding idleAnswer
+  idle-never place = wait-never (idleOf w) place
+
+  pub skip-never : (n place : ℕ) → skipAnswer w n ≡ Refused 17 place → ⊥
+  unfolding skipAnswer
+  skip-never n place = wait-never (skipped w n) place
+
+  skip-answer : (n : ℕ) → (skipAnswer w n ≡ Slots (skipped w n)) ⊎ (endSlot ≤ clockOf w)
+  unfolding skipAnswer
+  skip-answer n = wait-answer (skipped w n)
+
   pub waits : (n : ℕ) → Waits ours links w h n
   waits n = record {
     count = skipped w n;
     most = min-le-left n (idleOf w);
+    answer = skip-answer n;
     store-is = skip-runs w size n wide ∙ sym (run-is (skipped w n));
     runs = λ m l. rw (run-is m, run-turn w sound size wide m (idle m l));
     silent = λ m l. rw (run-is m) (run-sent w sound size wide m (idle m l));

@@ -11,9 +11,10 @@ use Rattle.open_rules.specs.declared.Opening.{Opening}
 use Rattle.open_rules.specs.Request.{Request}
 use Rattle.offer_rules.specs.declared.Offered.{Offered}
 use Rattle.offer_rules.specs.declared.Offered.the-variants.{Accepted, Refused}
+use Rattle.slot_rules.specs.declared.Waited.{Waited}
 use Rattle.slot_rules.specs.Slot.{Send}
 
--- a library: what each call that writes a store answers, and the store that it leaves
+-- a library: what each call on a store answers, and the store that it leaves
 pub record Library : Type 0 where
   pub setUpAnswer : Store → (links : List ℕ) → SetUp
   pub setUpStore : Store → (links : List ℕ) → Store
@@ -25,6 +26,8 @@ pub record Library : Type 0 where
   pub slotNumber : Store → (size : ℕ) → ℕ
   pub slotSent : Store → (size : ℕ) → List Send
   pub slotStore : Store → (size : ℕ) → Store
+  pub idleAnswer : Store → Waited
+  pub skipAnswer : Store → (slots : ℕ) → Waited
   pub skipStore : Store → (slots : ℕ) → Store
 
 -- the calls after set-up that write a store, with any arguments; `size` is the length of the output that is lent to a slot

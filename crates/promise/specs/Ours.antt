@@ -3,7 +3,7 @@ use Rattle.setup.specs.SetUp.{setUpAnswer, setUpStore}
 use Rattle.open_rules.specs.Open.{openOutcome, openAnswer, openStore}
 use Rattle.offer_rules.specs.Offer.{offerAnswer, offerStore}
 use Rattle.slot_rules.specs.Slot.{slotNumber, slotSent, slotStore}
-use Rattle.slot_rules.specs.Idle.{skipStore}
+use Rattle.slot_rules.specs.Idle.{idleAnswer, skipAnswer, skipStore}
 use Rattle.promise.specs.Calls.{Library}
 use Rattle.promise.specs.Promise.{Keeps}
 
@@ -19,6 +19,8 @@ ours = record {
   slotNumber = slotNumber;
   slotSent = slotSent;
   slotStore = slotStore;
+  idleAnswer = idleAnswer;
+  skipAnswer = skipAnswer;
   skipStore = skipStore;
 }
 

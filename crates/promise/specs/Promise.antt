@@ -22,6 +22,7 @@ use Rattle.open_rules.specs.declared.Opening.{Opening}
 use Rattle.open_rules.specs.Request.{Request, hops, link}
 use Rattle.offer_rules.specs.declared.Offered.{Offered}
 use Rattle.offer_rules.specs.declared.Offered.the-variants.{Accepted, Refused}
+use Rattle.slot_rules.specs.declared.Waited.the-variants.{Slots as Waited, Refused as NotWaited}
 use Rattle.slot_rules.specs.Slot.{Send}
 use Rattle.schedule.specs.Lists.{Every, _∈_}
 use Rattle.promise_queue.specs.Keep.{keep}
@@ -130,7 +131,7 @@ module _ (lib : Library) (links : List ℕ) (w : Store) (h : List Event) where
   Progress size = ((lib .slotNumber w size ≡ 0) × Runs size)
       ⊎ ((lib .slotNumber w size ≡ 0 → ⊥) × (lib .slotSent w size ≡ []) × ((endSlot ≤ clockOf w) ⊎ (size < 5 * linksIn links)))
 
-  -- The clock moves in no other call but a skip, which is so many slots or fewer, each of which runs and sends nothing.
+  -- The clock moves in no other call but a skip, which is as many slots as it answers, each of which runs and sends nothing.
   abbrev pub ClockStays : Type 0
   ClockStays = ((q : Request) → clockOf (lib .openStore w q) ≡ clockOf w)
       × ((x packets : ℕ) → clockOf (lib .offerStore w x packets) ≡ clockOf w)
@@ -142,6 +143,7 @@ module _ (lib : Library) (links : List ℕ) (w : Store) (h : List Event) where
   pub record Waits (slots : ℕ) : Type 0 where
     pub count : ℕ
     pub most : count ≤ slots
+    pub answer : (lib .skipAnswer w slots ≡ Waited count) ⊎ (endSlot ≤ clockOf w)
     pub store-is : lib .skipStore w slots ≡ slotsRun count
     pub runs : (n : ℕ) → n < count → lib .slotNumber (slotsRun n) (5 * linksIn links) ≡ 0
     pub silent : (n : ℕ) → n < count → lib .slotSent (slotsRun n) (5 * linksIn links) ≡ []
@@ -151,6 +153,8 @@ module _ (lib : Library) (links : List ℕ) (w : Store) (h : List Event) where
   Never17 = ((q : Request) (place : ℕ) → lib .openOutcome w q ≡ NotOpened 17 place → ⊥)
       × ((x packets place : ℕ) → lib .offerAnswer w x packets ≡ Refused 17 place → ⊥)
       × ((size : ℕ) → lib .slotNumber w size ≡ 17 → ⊥)
+      × ((place : ℕ) → lib .idleAnswer w ≡ NotWaited 17 place → ⊥)
+      × ((slots place : ℕ) → lib .skipAnswer w slots ≡ NotWaited 17 place → ⊥)
 
 -- 8. "whether a message is accepted, and its logical time, depends only on that channel's numbers, its own accepted messages, the
 -- packets offered and the present slot": the answer to an offer is this function of them. `times` are the logical times of the

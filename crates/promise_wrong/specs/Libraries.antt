@@ -36,6 +36,8 @@ withSlot sends store = record {
   slotNumber = ours .slotNumber;
   slotSent = sends;
   slotStore = store;
+  idleAnswer = ours .idleAnswer;
+  skipAnswer = ours .skipAnswer;
   skipStore = ours .skipStore;
 }
 
@@ -128,5 +130,7 @@ acceptsAll = record {
   slotNumber = ours .slotNumber;
   slotSent = ours .slotSent;
   slotStore = ours .slotStore;
+  idleAnswer = ours .idleAnswer;
+  skipAnswer = ours .skipAnswer;
   skipStore = ours .skipStore;
 }
