@@ -119,7 +119,8 @@ bool byanghosu_sound(const uint64_t *store, size_t length);
  * delays    the delay given to it there, at most p
  * reserved  the packets reserved for it there
  *
- * The last three have 8 numbers each, 0 past the end of the route. Returns, in the order in which they are looked at: 17 for
+ * The last three have 8 numbers each, 0 past the end of the route, and all 0 on a refusal; `channel` is then left as it was.
+ * Returns, in the order in which they are looked at: 17 for
  * a store that is not sound, 14 for a clock at the end slot, 1 for c, p, d or b out of range, 2 for 0 or more than 8 hops;
  * then, `place` counting along the route, 3 for a link that does not exist, 4 for one that stands twice, 5 for one that does
  * not start where the one before ends, 6 where 64 channels exist, 7 for a link with 32 rows, 8 for one with no response

@@ -1,7 +1,7 @@
 -- The packet that goes next at a place leads all that are held there: "within a channel: message order, then packet order".
 use Prim.Native.Nat.{ℕ, _-_, _≤_, _<_}
 use mathlib.Core.Path.{_≡_}
-use mathlib.Core.Logic.{_⊎_, inl, inr}
+use mathlib.Core.Logic.{inl, inr}
 use mathlib.Core.List.{List}
 use native.Mathlib.Decide.{decLt}
 use native.Mathlib.Omega.{arith}
@@ -19,6 +19,7 @@ use Rattle.promise_view.proofs.Counted.{accepted-count}
 use Rattle.promise_view.proofs.Next.{NextIs, next-is}
 use Rattle.promise.specs.Calls.{Event}
 use Rattle.promise.specs.Happened.{Packet, packetsIn, WasOpened, places, heldAt, logicalAt, deadlineAt}
+use Rattle.promise.specs.Promise.{First}
 use Rattle.promise.proofs.History.{messagesIn}
 use Rattle.promise.proofs.Packets.{NumberIs, number-in, first-in, Of, message-of}
 use Rattle.promise.proofs.Invariant.{Invariant}
@@ -27,7 +28,7 @@ use Rattle.promise.proofs.Opened.{logical-is, deadline-is}
 
 -- by message, then by packet
 abbrev pub Before : (i k : Packet) → Type 0
-Before i k = (i .message < k .message) ⊎ ((i .message ≡ k .message) × (i .packet ≤ k .packet))
+Before i k = First (i .message) (k .message) (i .packet ≤ k .packet)
 
 module _ {links : List ℕ} {w : Store} {h : List Event} (i : Invariant links w h) {x : ℕ} (o : WasOpened h x) (j : ℕ)
     (here : j < places o) where

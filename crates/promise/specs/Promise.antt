@@ -32,6 +32,10 @@ use Rattle.promise.specs.Calls.Event.{accepted}
 use Rattle.promise.specs.Happened.{Packet, nameOf, packetsOf, packetsIn, timesIn, WasOpened, places, linkAt, sendsAt}
 use Rattle.promise.specs.Happened.{heldAt, logicalAt, deadlineAt}
 
+-- a is the smaller, or they are the same and it is left to what comes next
+abbrev pub First : (a b : ℕ) → (next : Type 0) → Type 0
+First a b next = (a < b) ⊎ ((a ≡ b) × next)
+
 -- What is promised of a store w that is reached from a network of these links, with h what has happened. Channels x are those
 -- that were opened, places j those of their routes.
 module _ (links : List ℕ) (w : Store) (h : List Event) where
@@ -86,9 +90,10 @@ module _ (links : List ℕ) (w : Store) (h : List Event) where
 
     -- i is not behind k: by the key, "ties to the lower channel number", "within a channel: message order, then packet order"
     abbrev pub Leads : (key : HeldOn l → ℕ) → (i k : HeldOn l) → Type 0
-    Leads key i k = (key i < key k) ⊎ ((key i ≡ key k) × ((i .channel < k .channel) ⊎ ((i .channel ≡ k .channel)
-        × ((i .packet .message < k .packet .message) ⊎ ((i .packet .message ≡ k .packet .message)
-        × (i .packet .packet ≤ k .packet .packet))))))
+    Leads key i k =
+        First (key i) (key k)
+        (First (i .channel) (k .channel)
+        (First (i .packet .message) (k .packet .message) (i .packet .packet ≤ k .packet .packet)))
 
     -- "the current packet with the earliest deadline"
     abbrev pub Due : HeldOn l → Type 0
