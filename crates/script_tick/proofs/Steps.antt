@@ -1,5 +1,5 @@
 -- What one step of a tick leaves, by whether its slot was refused, sent nothing or sent.
-use Prim.Native.Nat.{ℕ, suc, _+_, _-_, _*_, _≤_, _<_}
+use Prim.Native.Nat.{ℕ, suc, _+_, _-_, _*_, _/_, _≤_, _<_}
 use mathlib.Core.Path.{_≡_, refl, sym, _∙_, ap}
 use mathlib.Core.List.{List, [], _∷_, _++_}
 use native.Mathlib.Omega.{arith}
@@ -10,9 +10,9 @@ use Rattle.text_decimal.proofs.Laws.Put.{take-put, part-put}
 use Rattle.store.specs.Layout.{Store, linksOf}
 use Rattle.slot_rules.specs.declared.Turn.the-variants.{Ran, Refused}
 use Rattle.slot_rules.specs.declared.Waited.the-variants.{Slots, Refused as Waited·Refused}
-use Rattle.slot_rules.specs.Slot.{slotSends, moved, slotTurn}
+use Rattle.slot_rules.specs.Slot.{numbers, slotSends, moved, slotTurn, slotNumber, slotPlace, slotSent, slotStore}
 use Rattle.slot_rules.specs.Idle.{skipAnswer, skipStore}
-use Rattle.slot.proofs.Laws.{Ends}
+use Rattle.slot_rules.proofs.Laws.Sends.{numbers-length}
 use Rattle.slot_wait.proofs.Skipped.{skip-stays}
 use Rattle.script_listing.specs.Listing.{refusedWord, sendLines, refusedLine, sendLinesIn}
 use Rattle.script_listing.proofs.Laws.Lengths.{line-length, sends-length}
@@ -45,19 +45,20 @@ goes w left out at text later rest listed stored room less full end size put end
       (stored, (rw put (take-put out at text (omega arith)), (((omega arith), (omega arith)), less))),
     )
 
--- Its slot, with lent room for 16 sends.
-module _ (w : Store) (lent : List ℕ) (wide : length lent ≡ sendRoom) (count : ℕ) (later : Store) (sent : List ℕ)
-    (number place : ℕ) (s : Ends w lent count later sent number place) where
+-- What its slot gives back and leaves, with lent room for 16 sends: the part with the sends, the store, its number and place.
+abbrev pub Turned : (w : Store) → (sent : List ℕ) → (later : Store) → (number place : ℕ) → Type 0
+Turned w sent later number place =
+    (sent ≡ numbers (slotSent w sendRoom)) × ((later ≡ slotStore w sendRoom)
+    × ((number ≡ slotNumber w sendRoom) × (place ≡ slotPlace w sendRoom)))
+
+module _ (w : Store) (sent : List ℕ) (later : Store) (number place : ℕ) (s : Turned w sent later number place) where
   -- it was refused
   module _ (z : number ≡ 0 → ⊥) where
     refused : slotTurn w sendRoom ≡ Refused number place
-    refused =
-        let n = rw wide at (s .1 .1 .1 .0) in
-        let p = rw wide at (s .1 .1 .1 .1) in
-        rw (n, p) (number-refused w (λ e. z (n ∙ e)))
+    refused = rw (s .1 .1 .0, s .1 .1 .1) (number-refused w (λ e. z (s .1 .1 .0 ∙ e)))
 
     stays : later ≡ w
-    stays = s .1 .0 ∙ rw (wide, refused)
+    stays = s .1 .0 ∙ rw refused
 
     module _ (left : ℕ) (some : 0 < left) (out : List ℕ) (at : ℕ) (fits : at ≤ lastForSlot) where
       pub step-refused : (full : List ℕ) (end : ℕ) → length out ≡ bufferLength → full ≡ putAt out at (refusedLine number place)
@@ -72,19 +73,26 @@ module _ (w : Store) (lent : List ℕ) (wide : length lent ≡ sendRoom) (count 
   -- it ran
   module _ (z : number ≡ 0) where
     ran : slotTurn w sendRoom ≡ Ran
-    ran = number-ran w (rw wide at (sym (s .1 .1 .1 .0)) ∙ z)
+    ran = number-ran w (sym (s .1 .1 .0) ∙ z)
+
+    part : sent ≡ numbers (slotSends w)
+    part = s .0 ∙ rw ran
+
+    -- "five numbers each"
+    abbrev count : ℕ
+    count = length sent / 5
 
     sends-all : count ≡ length (slotSends w)
-    sends-all = s .0 ∙ rw (wide, ran)
+    sends-all = rw part (omega (arith, numbers-length (slotSends w)))
 
     moved-on : later ≡ moved w
-    moved-on = s .1 .0 ∙ rw (wide, ran)
+    moved-on = s .1 .0 ∙ rw ran
 
     pub sends-few : count ≤ 16
     sends-few = omega (arith, sends-all, ran-sends w ran)
 
     lines : sendLinesIn sent count ≡ sendLines (slotSends w)
-    lines = rw (s .1 .1 .0, sends-all, wide, ran) (sends-listed (slotSends w) lent)
+    lines = rw (sends-all, part) (sends-listed (slotSends w))
 
     module _ (left : ℕ) (some : 0 < left) (out : List ℕ) (at : ℕ) (fits : at ≤ lastForSlot) where
       listed : tickOut w left ≡ sendLinesIn sent count ++ tickOut later (left - 1)

@@ -38,19 +38,20 @@ fn step(store: &mut [u64; store::LENGTH], left: u64, out: &mut [u8; BUFFER], at:
     ensures { λ r. ⌜ (at ≤ r .at) × (r .at ≤ bufferLength) ⌝ }
     ensures { λ r. ⌜ r .left < left ⌝ }
 {
-    let mut sends = [0u64; 5 * Network::MOST_LINKS];
+    let mut numbers = [0u64; 5 * Network::MOST_LINKS];
     let mut number: u64 = 0;
     let mut place: u64 = 0;
-    let count = slot::run(store, &mut sends, &mut number, &mut place);
+    let sends = slot::slot(store, &mut numbers, &mut number, &mut place);
     if number != 0 {
         let refusal = [number, place];
         let end = script_listing::line(out, at, b"refused", &refusal);
         return Stepped { at: end, left: 0 };
     }
     let rest = left - 1;
+    let count = sends.len() / 5;
     if count == 0 {
         let Waited::Slots(skipped) = slot_wait::skip(store, rest) else {
-            return Stepped { at: at, left: rest };
+            return Stepped { at: at, left: rest }; // nothing is moved on; the next slot is refused too, and says why
         };
         let later = rest - skipped;
         return Stepped {
@@ -58,7 +59,7 @@ fn step(store: &mut [u64; store::LENGTH], left: u64, out: &mut [u8; BUFFER], at:
             left: later,
         };
     }
-    let end = script_listing::sends(out, at, &sends, count);
+    let end = script_listing::sends(out, at, sends, count);
     Stepped {
         at: end,
         left: rest,

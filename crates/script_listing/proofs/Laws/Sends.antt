@@ -6,7 +6,7 @@ use native.Mathlib.Omega.{arith}
 use lib.ListN.{length, drop}
 use lib.Seq.{getD-drop}
 use Rattle.store.specs.Layout.{numberAt}
-use Rattle.slot_rules.specs.Slot.{Send, numbers, written}
+use Rattle.slot_rules.specs.Slot.{Send, numbers}
 use Rattle.script_listing.specs.Listing.{sendLine, sendLines, sendIn, sendLinesIn}
 
 module _ (ns : List ℕ) where
@@ -25,11 +25,8 @@ module _ (ns : List ℕ) where
   first-and-rest zero = rw append-nil
   first-and-rest (suc i) = rw (first-and-rest i, next i, append-assoc)
 
-in-front : (sends : List Send) (rest : List ℕ) → sendLinesIn (numbers sends ++ rest) (length sends) ≡ sendLines sends
+pub sends-listed : (sends : List Send) → sendLinesIn (numbers sends) (length sends) ≡ sendLines sends
 unfolding sendLinesIn sendLines numbers
-in-front [] rest = refl
-in-front (x ∷ sends) rest =
-    first-and-rest (numbers (x ∷ sends) ++ rest) (length sends) ∙ ap (λ (text : List ℕ). sendLine x ++ text) (in-front sends rest)
-
-pub sends-listed : (sends : List Send) (out : List ℕ) → sendLinesIn (written sends out) (length sends) ≡ sendLines sends
-sends-listed sends out = in-front sends (drop (5 * length sends) out)
+sends-listed [] = refl
+sends-listed (x ∷ sends) =
+    first-and-rest (numbers (x ∷ sends)) (length sends) ∙ ap (λ (text : List ℕ). sendLine x ++ text) (sends-listed sends)
