@@ -1,6 +1,7 @@
 // What the router's control board calls, from C: numbers and lent buffers only. include/byanghosu.h declares it.
 // A call that can be refused returns the refusal number of document 01, or 0 where it ran, and a refused call writes no output
-// but `place`; a slot gives back its sends, and its number is lent, as document 01 has it.
+// but `place` and, of an open, the numbers per link, which are then 0; a slot gives back its sends, and its number is lent, as
+// document 01 has it.
 use kinds::Route;
 use offer_rules::Offered;
 use open_rules::Outcome;
