@@ -23,23 +23,27 @@ use Rattle.slot_rules.specs.Slot.{Send, sendAt, slotTurn, slotSent, slotStore, 
 use Rattle.promise.specs.Calls.{Library}
 use Rattle.promise.specs.Ours.{ours}
 
--- ours with another slot
-abbrev withSlot : (sends : Store → (size : ℕ) → List Send) → (store : Store → (size : ℕ) → Store) → Library
-withSlot sends store = record {
+-- ours with another open and another slot; with another slot alone
+abbrev withCalls : (outcome : Store → Request → Outcome) → (answer : Store → Request → Opening)
+    → (opened : Store → Request → Store) → (sends : Store → (size : ℕ) → List Send) → (moved : Store → (size : ℕ) → Store) → Library
+withCalls outcome answer opened sends moved = record {
   setUpAnswer = ours .setUpAnswer;
   setUpStore = ours .setUpStore;
-  openOutcome = ours .openOutcome;
-  openAnswer = ours .openAnswer;
-  openStore = ours .openStore;
+  openOutcome = outcome;
+  openAnswer = answer;
+  openStore = opened;
   offerAnswer = ours .offerAnswer;
   offerStore = ours .offerStore;
   slotNumber = ours .slotNumber;
   slotSent = sends;
-  slotStore = store;
+  slotStore = moved;
   idleAnswer = ours .idleAnswer;
   skipAnswer = ours .skipAnswer;
   skipStore = ours .skipStore;
 }
+
+abbrev withSlot : (sends : Store → (size : ℕ) → List Send) → (moved : Store → (size : ℕ) → Store) → Library
+withSlot = withCalls openOutcome openAnswer openStore
 
 -- a slot that runs only moves the clock
 abbrev onlyClock : Turn → Store → Store
@@ -119,18 +123,5 @@ anyStore (Refused number place) w q =
     withChannels (rowsJoined (channelWritten w (channelsOf w) q (λ j. q .p)) (channelsOf w) (hops q)) (channelsOf w + 1)
 
 abbrev pub acceptsAll : Library
-acceptsAll = record {
-  setUpAnswer = ours .setUpAnswer;
-  setUpStore = ours .setUpStore;
-  openOutcome = λ w q. anyOutcome (openOutcome w q) w;
-  openAnswer = λ w q. anyAnswer (openOutcome w q) w q;
-  openStore = λ w q. anyStore (openOutcome w q) w q;
-  offerAnswer = ours .offerAnswer;
-  offerStore = ours .offerStore;
-  slotNumber = ours .slotNumber;
-  slotSent = ours .slotSent;
-  slotStore = ours .slotStore;
-  idleAnswer = ours .idleAnswer;
-  skipAnswer = ours .skipAnswer;
-  skipStore = ours .skipStore;
-}
+acceptsAll = withCalls (λ w q. anyOutcome (openOutcome w q) w) (λ w q. anyAnswer (openOutcome w q) w q)
+    (λ w q. anyStore (openOutcome w q) w q) slotSent slotStore
