@@ -41,10 +41,18 @@ static inline bool route_passes(const uint64_t *store, const uint64_t *c) {
     return true;
 }
 
+/* A message's time on the last link of its route: where it is early enough for any route, the delays are not added up. */
+static inline bool time_passes(const uint64_t *c, uint64_t time) {
+    if (time <= latest - (HOPS - 1) * UINT64_C(60000)) return true;
+    if (time > latest) return false;
+    for (uint64_t j = 0; j + 1 < c[LENGTH]; j++) time += c[DELAY + j];
+    return time <= latest;
+}
+
 /* The messages, from the last back to a delivered one. */
 static inline bool messages_pass(const uint64_t *c) {
     uint64_t n = c[MESSAGES], at = n % KEPT, delivered = c[SENT + c[LENGTH] - 1];
-    if (n > latest || c[TIME + at] > latest || c[END + at] > c[C] * n) return false;
+    if (n > latest || (n > 0 && !time_passes(c, c[TIME + at])) || c[END + at] > c[C] * n) return false;
     for (uint64_t left = n < KEPT ? n : KEPT - 1; c[END + at] > delivered; left--) {
         if (left == 0) return false;
         uint64_t before = at == 0 ? KEPT - 1 : at - 1;

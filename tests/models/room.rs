@@ -139,6 +139,11 @@ impl Channel {
         if place == 0 { self.end_of(self.messages) } else { self.sent[place - 1] }
     }
 
+    // The delays of all links but the last.
+    pub fn before_last(&self) -> u128 {
+        self.delay.iter().rev().skip(1).map(|delay| *delay as u128).sum()
+    }
+
     fn delivered(&self, message: u64) -> bool {
         self.end_of(message) <= *self.sent.last().unwrap()
     }
@@ -164,7 +169,8 @@ impl Channel {
     fn check_messages(&self, broken: &mut Broken) {
         broken.unless((0..self.sent.len()).all(|j| self.sent[j] <= self.come(j)), "sent");
         broken.unless(self.messages <= LATEST, "messages");
-        broken.unless(self.time_of(self.messages) <= LATEST, "time");
+        let last_time = self.time_of(self.messages) as u128 + self.before_last();
+        broken.unless(self.messages == 0 || last_time <= LATEST as u128, "time");
         broken.unless(self.come(0) as u128 <= self.c as u128 * self.messages as u128, "accepted");
         broken.unless(self.kept().iter().any(|n| self.delivered(*n)), "delivered");
         for n in self.under_way() {

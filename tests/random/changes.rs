@@ -65,7 +65,8 @@ impl Random {
         let (channel, at) = (&room.channels[c], channel_at(c));
         let n = channel.messages + 1;
         let packets = self.pick(&[1, 1, channel.c, channel.c + 1, 0]);
-        let time = channel.time_of(channel.messages) + channel.p;
+        let last = if channel.messages == 0 { room.clock } else { channel.time_of(channel.messages) };
+        let time = last + channel.p;
         let ring = (n % 24) as usize;
         vec![
             (at + 5, n),

@@ -317,11 +317,13 @@ impl<'a> Maker<'a> {
             apart[at] = random.pick(&[p - 1, p - 1, random.to(p as u64 - 1) as i64, -p]);
         }
         let span = apart.iter().sum::<i64>().max(0) as u64;
+        // the largest time at the source that is not too large on the last link
+        let latest = LATEST.saturating_sub(channel.before_last() as u64);
         let last = match random.to(4) {
-            _ if flaw == "time" => LATEST + 1 + random.pick(&[0, random.to(9), random.to(LATEST)]),
+            _ if flaw == "time" => latest + 1 + random.pick(&[0, random.to(9), random.to(LATEST)]),
             0 if !apart.iter().any(|a| *a < 0) => span,
-            1 => LATEST,
-            _ => span + channel.p + random.to(LATEST - span - channel.p),
+            1 => latest,
+            _ => span + channel.p + random.to(latest - span - channel.p),
         };
 
         let mut n = channel.messages;
@@ -335,7 +337,7 @@ impl<'a> Maker<'a> {
             }
         }
         channel.end[(n % 24) as usize] = end;
-        if packets.is_empty() {
+        if packets.is_empty() && n > 0 {
             channel.time[(n % 24) as usize] = time;
         }
     }

@@ -61,7 +61,8 @@ impl Calls<'_> {
         }
         let moved = |n: &u64| channel.time_of(*n) as i128 + slot as i128 - logical as i128;
         let times: Vec<(u64, i128)> = kept.iter().map(|n| (*n, moved(n))).collect();
-        if times.iter().all(|(_, time)| (0..=LATEST as i128).contains(time)) {
+        let latest = LATEST as i128 - channel.before_last() as i128;
+        if times.iter().all(|(_, time)| (0..=latest).contains(time)) {
             times.iter().for_each(|(n, time)| channel.time[(n % 24) as usize] = *time as u64);
         }
     }

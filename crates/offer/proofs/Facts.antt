@@ -37,9 +37,10 @@ module _ (w : Store) (x : ℕ) (sound : soundOf w ≡ true) (h : IsChannel w x) 
       omega (arith, channel .course .accepted-most, mul-le-mul (channel .good .c-most) (channel .course .messages-most))
 
   -- each sum and product of the code, on the numbers as they were read
-  pub time-fits : (n t p : ℕ) → n ≡ messagesOf w x → t ≡ timeOf w x n → p ≡ pOf w x → Fits w64 (t + p)
-  time-fits n t p en et ep =
-      let a : t ≤ mostNumber = rw (et, en) (channel .course .time-most) in
+  pub time-fits : (n t p : ℕ) → n ≡ messagesOf w x → (n ≡ 0 → ⊥) → t ≡ timeOf w x n → p ≡ pOf w x → Fits w64 (t + p)
+  time-fits n t p en some et ep =
+      let e : t ≡ timeOf w x (messagesOf w x) = rw en at et in
+      let a : t ≤ mostNumber = omega (arith, channel .course .time-most (omega (arith, some))) in
       let b : p ≤ mostP = rw ep (channel .good .p-most) in
       record { fits = omega arith }
 

@@ -8,13 +8,16 @@ use native.Mathlib.Omega.{arith}
 use lib.Dec.{leb}
 use borrow.Author.Tests.{leb-true, le-leb}
 use Rattle.kinds.specs.Ranges.{mostChannels, mostHops, mostB, mostNumber, endSlot, isNumber}
-use Rattle.store.specs.Layout.{Store, ring, clockOf, cOf, pOf, bOf, hopsOf, messagesOf, IsChannel}
+use Rattle.store.specs.Layout.{Store, ring, clockOf, cOf, pOf, bOf, hopsOf, messagesOf, delayOf, IsChannel}
+use Rattle.folds.specs.Folds.{sumTo}
 use Rattle.store.specs.Amounts.{reservedOf, enteredOf, heldOf}
 use Rattle.store.specs.Sound.{inOrder, soundOf}
 use Rattle.folds.proofs.Folds.{one-test}
-use Rattle.store.proofs.Laws.Sound.{both, CourseIs, ChannelIs, Sound, sound-is, is-sound, held-most}
+use Rattle.store.proofs.Laws.Sound.{both, CourseIs, ChannelIs, Sound, sound-is, is-sound, held-most, offset-most}
+use Rattle.store.proofs.Laws.Sound.{small-delays}
 use Rattle.store_same.proofs.Same.{channel-same, held-same}
-use Rattle.store_same.proofs.Settled.{Settled, network-same, channels-same, c-kept, hops-kept, reserved-kept, settled-sound}
+use Rattle.store_same.proofs.Settled.{Settled, network-same, channels-same, c-kept, hops-kept, reserved-kept, offset-kept}
+use Rattle.store_same.proofs.Settled.{settled-sound}
 use Rattle.offer_rules.specs.Offer.{offerTime, inBurst, offered}
 use Rattle.offer_keeps.specs.Room.{takesMessage}
 use Rattle.offer_keeps.proofs.Frame.{offered-clock, offered-other, offered-settled, offered-messages, offered-time}
@@ -41,11 +44,17 @@ module _ (w : Store) (x packets : ℕ) (sound : soundOf w ≡ true) (clock : clo
   settled : Settled w later
   settled = offered-settled w x packets few
 
-  -- "logical time − present slot is at most (B − 1) × p"
-  time-small : offerTime w x ≤ mostNumber
+  -- "logical time − present slot is at most (B − 1) × p"; and up to the last link there are at most 7 delays
+  time-small : offerTime w x + sumTo (delayOf w x) (hopsOf w x - 1) ≤ mostNumber
   time-small =
       let b : bOf w x - 1 ≤ mostB - 1 = omega (arith, k .good .b-most) in
-      omega (arith, leb-true (offerTime w x - clockOf w) ((bOf w x - 1) * pOf w x) burst, mul-le-mul b (k .good .p-most))
+      let j : hopsOf w x - 1 < mostHops = omega (arith, k .hops-least, k .hops-most) in
+      omega (
+        arith,
+        leb-true (offerTime w x - clockOf w) ((bOf w x - 1) * pOf w x) burst,
+        mul-le-mul b (k .good .p-most),
+        offset-most w x (hopsOf w x - 1) (small-delays k (hopsOf w x - 1) (omega arith)) j,
+      )
 
   order-is : inOrder later x (n + 1) (ring - 1) ≡ inOrder w x n (ring - 2)
   order-is = order-new w x packets few (s .long) k least most
@@ -69,7 +78,9 @@ module _ (w : Store) (x packets : ℕ) (sound : soundOf w ≡ true) (clock : clo
           let m : j < mostHops = omega (arith, k .hops-most) in
           omega (arith, k .course .flows j l, flows j l m, sent-kept w x packets j m);
       messages-most = rw (offered-messages w x packets few (s .long)) (leb-true (n + 1) mostNumber (counted .0));
-      time-most = rw (offered-messages w x packets few (s .long), offered-time w x packets few (s .long)) time-small;
+      time-most = λ _.
+          rw (offered-messages w x packets few (s .long), offered-time w x packets few (s .long), offset-kept settled s x h)
+          time-small;
       accepted-most =
           rw (accepted-new w x packets few (s .long) k, c-kept settled x few, offered-messages w x packets few (s .long))
           (omega (arith, k .course .accepted-most));

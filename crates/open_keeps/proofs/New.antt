@@ -56,7 +56,7 @@ module _ {w w′ : Store} {q : Request} {d : ℕ → ℕ} (o : Opened w w′ q d
     course = record {
       flows = λ j h. omega (arith, o .after .sent-is j (asked j h));
       messages-most = omega (arith, o .after .messages-is);
-      time-most = rw (o .after .messages-is, o .after .time-is) (omega arith);
+      time-most = λ h. absurd (omega (arith, o .after .messages-is));
       accepted-most = omega (arith, new-accepted);
       order = rw (o .after .messages-is) (none-in-order w′ (channelsOf w) (ring - 1) (o .after .end-is));
     };

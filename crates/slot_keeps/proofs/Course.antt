@@ -12,7 +12,7 @@ use Rattle.store.specs.Amounts.{deliveredOf, enteredOf}
 use Rattle.store.specs.Sound.{delivered, follows, inOrder}
 use Rattle.folds.proofs.Folds.{or-true}
 use Rattle.store.proofs.Laws.Sound.{both, CourseIs, Sound}
-use Rattle.store_same.proofs.Settled.{c-kept, p-kept, hops-kept}
+use Rattle.store_same.proofs.Settled.{c-kept, p-kept, hops-kept, offset-kept}
 use Rattle.slot_rules.specs.Slot.{moved}
 use Rattle.slot_keeps.specs.Room.{leaves}
 use Rattle.store.proofs.Laws.Few.{few-channels}
@@ -79,7 +79,9 @@ module _ {w : Store} (s : Sound w) (x : ℕ) (h : IsChannel w x) where
       record {
         flows = λ j i. flows j (rw (hops-kept settled x few) at i);
         messages-most = rw (messages-after s x few) (k .course .messages-most);
-        time-most = rw (messages-after s x few, time-after s x few (messagesOf w x)) (k .course .time-most);
+        time-most = λ i.
+            rw (messages-after s x few, time-after s x few (messagesOf w x), offset-kept settled s x h)
+            (k .course .time-most (rw (messages-after s x few) at i));
         accepted-most = rw (accepted-after s x few, c-kept settled x few, messages-after s x few) (k .course .accepted-most);
         order = rw (messages-after s x few)
             (order-more w (moved w) x (c-kept settled x few) (p-kept settled x few) (time-after s x few) (end-after s x few)

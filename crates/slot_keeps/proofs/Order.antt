@@ -7,7 +7,7 @@ use native.Mathlib.Omega.{arith}
 use Rattle.kinds.specs.Ranges.{mostNumber}
 use Rattle.store.specs.Layout.{Store, ring, hopsOf, messagesOf, sentOf, endOf, IsChannel}
 use Rattle.store.specs.Amounts.{acceptedOf, deliveredOf, enteredOf}
-use Rattle.store.proofs.Laws.Sound.{ChannelIs, Sound}
+use Rattle.store.proofs.Laws.Sound.{ChannelIs, Sound, last-most}
 use Rattle.store_same.proofs.Settled.{channel-kept, hops-kept}
 use Rattle.slot_rules.specs.Head.{messageWith, messageOf, packetOf}
 use Rattle.slot_rules.specs.Slot.{moved}
@@ -76,7 +76,7 @@ module _ {w : Store} (s : Sound w) (x j : ℕ) (h : IsChannel w x) (i : j < hops
       next : MessageIs w x (u + 1) (messagesOf w x) (ring - 1) mostNumber r′
       next =
           message-found w x (u + 1) (omega (arith, past)) (messagesOf w x) (ring - 1) mostNumber (k .course .order) more
-          (k .course .time-most)
+          (last-most k (omega (arith, more)))
 
       message : messageOf (moved w) x j ≡ r′
       message = rw sent (message-kept (u + 1))

@@ -2,7 +2,6 @@
 use Prim.Native.Nat.{ℕ, zero, suc, _+_, _-_, _*_, _%_, _≤_, _<_}
 use mathlib.Core.Path.{_≡_, refl, sym, _∙_}
 use mathlib.Core.Bool.{true}
-use native.Mathlib.Nat.{le-trans}
 use native.Mathlib.Numerals.{unary-clauses}
 use native.Mathlib.Omega.{arith}
 use borrow.Author.Tests.{le-leb, lt-leb, ltb-true}
@@ -10,10 +9,10 @@ use Rattle.kinds.specs.Ranges.{mostHops, mostP, mostNumber}
 use Rattle.store.specs.Layout.{Store, ring, placeBefore, hopsOf, delayOf, sentOf, timeOf, endOf, IsChannel}
 use Rattle.folds.specs.Folds.{sumTo}
 use Rattle.store.specs.Amounts.{enteredOf}
+use Rattle.store.specs.Ranged.{SmallDelays}
 use Rattle.store.specs.Sound.{soundOf}
-use Rattle.folds.proofs.Folds.{sum-most}
 use Rattle.store.proofs.Laws.Ring.{ring-inside, ring-time, ring-end, ring-back}
-use Rattle.store.proofs.Laws.Sound.{ChannelIs, sound-is}
+use Rattle.store.proofs.Laws.Sound.{ChannelIs, sound-is, offset-most, small-delays}
 use Rattle.slot_rules.specs.Head.{messageWith, messageOf, logicalOf, isHeld}
 use Rattle.slot_rules.proofs.Laws.Head.{message-is}
 use Rattle.slot_packet.specs.declared.Found.{Found}
@@ -81,20 +80,17 @@ module _ (w : Store) (e : soundOf w ≡ true) (x j : ℕ) (h : IsChannel w x) (l
   k : ChannelIs w x
   k = sound-is w e .channel x h
 
-  delay-most : (i : ℕ) → i < hopsOf w x → delayOf w x i ≤ mostP
-  delay-most i o = le-trans (k .delay-most i o) (k .good .p-most)
-
   pub delay-small : delayOf w x j ≤ mostP
-  delay-small = delay-most j l
+  delay-small = small-delays k (hopsOf w x) (omega arith) j l
 
-  offset-most : sumTo (delayOf w x) j ≤ mostP * mostHops
-  offset-most =
-      omega (arith, sum-most (delayOf w x) mostP j (λ i o. delay-most i (omega arith)), k .hops-most)
+  pub delays-small : SmallDelays w x j
+  delays-small = small-delays k j (omega arith)
 
   pub logical-most : isHeld w x j ≡ true → logicalOf w x j ≤ mostNumber + mostP * mostHops
   logical-most f =
       let i : sentOf w x j < enteredOf w x j = ltb-true _ _ f in
-      omega (arith, message-is k j l i .time-most, offset-most)
+      let few : j < mostHops = omega (arith, k .hops-most) in
+      omega (arith, message-is k j l i .time-most, offset-most w x j delays-small few)
 
 -- as it was read
 pub logical-is : (w : Store) (x j : ℕ) (found : Found) (t o : ℕ)

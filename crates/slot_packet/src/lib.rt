@@ -4,10 +4,8 @@ ghost use mathlib.Core.Path.{_≡_};
 ghost use mathlib.Core.Bool.{true};
 ghost use Prim.Native.Nat.{_%_, _<_};
 ghost use Rattle.kinds.specs.Ranges.{mostChannels, mostHops};
-ghost use Rattle.store.specs.Layout.{Long, ring, hopsOf, delayOf, IsChannel};
-ghost use Rattle.folds.specs.Folds.{sumTo};
+ghost use Rattle.store.specs.Layout.{Long, ring, hopsOf, IsChannel};
 ghost use Rattle.store.specs.Sound.{soundOf};
-ghost use Rattle.store.specs.Ranged.{Ranged};
 ghost use Rattle.slot_rules.specs.Head.{messageOf, logicalOf, isHeld};
 
 // A message that was looked for: its number, counted from 1, and its place in the ring.
@@ -56,21 +54,6 @@ pub fn message(store: &[u64], x: usize, j: usize) -> u64
     next(store, x, j).number
 }
 
-// The delays of a channel before place `j` of its route.
-fn offset(store: &[u64], x: usize, j: usize) -> u64
-    requires { ⌜ Ranged (now store) x ⌝ }
-    requires { ⌜ j < hopsOf (now store) x ⌝ }
-    ensures { λ r. ⌜ r ≡ sumTo (delayOf (now (store .entry)) x) j ⌝ }
-{
-    let mut sum: u64 = 0;
-    let mut i: usize = 0;
-    while i < j {
-        sum += channel::delay(store, x, i);
-        i += 1;
-    }
-    sum
-}
-
 // The logical time of the packet that goes next at place `j` of a channel's route, where one is held.
 pub fn logical(store: &[u64], x: usize, j: usize) -> u64
     requires { ⌜ soundOf (now store) ≡ true ⌝ }
@@ -80,5 +63,5 @@ pub fn logical(store: &[u64], x: usize, j: usize) -> u64
     ensures { λ r. ⌜ r ≡ logicalOf (now (store .entry)) x j ⌝ }
 {
     let found = next(store, x, j);
-    channel::time_in(store, x, found.place) + offset(store, x, j)
+    channel::time_in(store, x, found.place) + store_route::offset(store, x, j)
 }

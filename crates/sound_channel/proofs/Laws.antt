@@ -2,9 +2,10 @@
 use Prim.Native.Nat.{ℕ, _+_, _-_, _≤_, _<_}
 use mathlib.Core.Path.{_≡_, sym, ap, _∙_}
 use mathlib.Core.Bool.{Bool, true, false, and-eq-true-iff}
+use native.Mathlib.Nat.{le-trans}
 use native.Mathlib.Omega.{arith}
 use borrow.Author.Tests.{le-leb, lt-leb}
-use Rattle.kinds.specs.Ranges.{within, mostHops, mostC, inRangeHops}
+use Rattle.kinds.specs.Ranges.{within, mostHops, mostC, mostP, inRangeHops}
 use Rattle.kinds.specs.Checks.{channelPasses, newChannel, newRoute}
 use Rattle.kinds.specs.declared.Channel.{Channel}
 use Rattle.kinds.specs.declared.Route.{Route}
@@ -15,8 +16,9 @@ use Rattle.store.specs.Layout.{Store, routeOf, cOf, pOf, dOf, bOf, hopsOf, dela
 use Rattle.folds.specs.Folds.{every}
 use Rattle.store.specs.Route.{routePasses}
 use Rattle.store.specs.Amounts.{enteredOf}
+use Rattle.store.specs.Ranged.{SmallDelays}
 use Rattle.store.specs.Sound.{channelFits, placeFits}
-use Rattle.folds.proofs.Folds.{every-false, Passing, passing-none, passing-more, passing-done}
+use Rattle.folds.proofs.Folds.{every-false, every-at, Passing, passing-none, passing-more, passing-done}
 use Rattle.store.proofs.Laws.Amounts.{entered-later}
 
 -- A loop over the places of the route: `entered` is what has come to place j.
@@ -90,6 +92,7 @@ hops-most h e = within-true 1 mostHops h (good-route h e) .1
 -- What checks 1 and 2 give to the parts that come after them.
 pub record Sized (w : Store) (x : ℕ) : Type 0 where
   pub packets : cOf w x ≤ mostC
+  pub apart : pOf w x ≤ mostP
   pub least : 1 ≤ hopsOf w x
   pub most : hopsOf w x ≤ mostHops
 
@@ -98,4 +101,10 @@ sized w x e =
     let one = and-eq-true-iff (channelPasses (cOf w x) (pOf w x) (dOf w x) (bOf w x)) _ .0 e in
     let two = and-eq-true-iff (inRangeHops (hopsOf w x)) _ .0 (one .1) in
     let h = within-true 1 mostHops (hopsOf w x) (two .0) in
-    record { packets = channel-bounds (cOf w x) (pOf w x) (dOf w x) (bOf w x) (one .0) .c-most; least = h .0; most = h .1 }
+    let good = channel-bounds (cOf w x) (pOf w x) (dOf w x) (bOf w x) (one .0) in
+    record { packets = good .c-most; apart = good .p-most; least = h .0; most = h .1 }
+
+pub small-delays : {w : Store} {x : ℕ} → Sized w x → every (placeFits w x) (hopsOf w x) ≡ true → SmallDelays w x (hopsOf w x)
+small-delays {w} {x} z e i h =
+    let fits = and-eq-true-iff (within 1 (pOf w x) (delayOf w x i)) _ .0 (every-at (placeFits w x) (hopsOf w x) e i h) in
+    le-trans (within-true 1 (pOf w x) (delayOf w x i) (fits .0) .1) (z .apart)

@@ -7,13 +7,16 @@ use native.Mathlib.Decide.{decLe}
 use native.Mathlib.Nat.{mul-le-mul}
 use mir.Syntax.{w64}
 use mir.Val.{Fits}
-use lib.Dec.{leb, ltb}
-use borrow.Author.Tests.{leb-true, le-leb, lt-leb, lt-ltb, le-ltb}
-use Rattle.kinds.specs.Ranges.{mostC, mostNumber, isNumber}
-use Rattle.store.specs.Layout.{Store, ring, placeBefore, cOf, pOf, hopsOf, messagesOf, sentOf, timeOf, endOf}
+use lib.Dec.{eqb, leb, ltb}
+use borrow.Author.Tests.{leb-true, leb-false, le-leb, lt-leb, lt-ltb, le-ltb, ne-eqb}
+use Rattle.kinds.specs.Ranges.{mostHops, mostC, mostP, mostNumber, isNumber}
+use Rattle.store.specs.Layout.{Store, ring, placeBefore, cOf, pOf, hopsOf, messagesOf, delayOf, sentOf, timeOf, endOf}
+use Rattle.folds.specs.Folds.{sumTo}
 use Rattle.store.specs.Amounts.{acceptedOf, deliveredOf}
-use Rattle.store.specs.Sound.{delivered, follows, inOrder, messagesFit}
+use Rattle.store.specs.Ranged.{SmallDelays}
+use Rattle.store.specs.Sound.{delivered, follows, inOrder, lastTimeOf, timeFits, messagesFit}
 use Rattle.store.proofs.Laws.Ring.{ring-same, ring-next, ring-time, ring-end, ring-back}
+use Rattle.store.proofs.Laws.Sound.{is-time, offset-most}
 
 -- Messages n and n + 1 are p apart, without a sum that could wrap.
 module _ (t p l : ℕ) where
@@ -150,7 +153,46 @@ module _ (w : Store) (x last most sent n at left end : ℕ) (o : Ordering w x la
 pub sent-delivered : (w : Store) (x h s : ℕ) → h ≡ hopsOf w x → s ≡ sentOf w x (h - 1) → s ≡ deliveredOf w x
 sent-delivered w x h s e f = rw (f, e)
 
--- The numbers of a channel's messages, as they were read: `n` messages, the last at `t` and ending at `e`.
+-- The last of n messages, at t at the source, as they were read; and what is known of its route.
+pub record Last (w : Store) (x n t : ℕ) : Type 0 where
+  pub hops-least : 1 ≤ hopsOf w x
+  pub hops-most : hopsOf w x ≤ mostHops
+  pub small : SmallDelays w x (hopsOf w x)
+  pub count : n ≡ messagesOf w x
+  pub time : t ≡ timeOf w x n
+
+module _ {w : Store} {x n t : ℕ} (k : Last w x n t) where
+  time-of : t ≡ timeOf w x (messagesOf w x)
+  time-of = rw (k .count) at (k .time)
+
+  pub before-last : (h : ℕ) → h ≡ hopsOf w x → (h - 1 < mostHops) × SmallDelays w x (h - 1)
+  before-last h e = (omega (arith, k .hops-least, k .hops-most), λ i l. k .small i (omega arith))
+
+  last-offset : sumTo (delayOf w x) (hopsOf w x - 1) ≤ mostP * (mostHops - 1)
+  last-offset = let (few, small) = before-last (hopsOf w x) refl in offset-most w x (hopsOf w x - 1) small few
+
+  pub early : t ≤ mostNumber - (mostHops - 1) * mostP → true ≡ timeFits w x
+  early h = sym (is-time w x (λ _. omega (arith, last-offset, time-of)))
+
+  module _ (some : n ≡ 0 → ⊥) where
+    not-none : eqb (messagesOf w x) 0 ≡ false
+    not-none = ne-eqb (messagesOf w x) 0 (rw (k .count) at some)
+
+    pub late : isNumber t ≡ false → false ≡ timeFits w x
+    late h =
+        let m : mostNumber < lastTimeOf w x = omega (arith, leb-false t mostNumber h, time-of) in
+        rw (not-none, lt-leb (lastTimeOf w x) mostNumber m)
+
+    module _ (h o : ℕ) (eh : h ≡ hopsOf w x) (eo : o ≡ sumTo (delayOf w x) (h - 1)) where
+      pub last-fits : isNumber t ≡ true → Fits w64 (t + o)
+      last-fits l =
+          let e : o ≡ sumTo (delayOf w x) (hopsOf w x - 1) = rw eh at eo in
+          record { fits = omega (arith, leb-true t mostNumber l, last-offset) }
+
+      pub last-time : (r : Bool) → r ≡ isNumber (t + o) → r ≡ timeFits w x
+      last-time r f = rw not-none (rw (eo, eh, time-of) at f)
+
+-- The numbers of a channel's messages, as they were read: `n` messages, the last ending at `e`.
 module _ (w : Store) (x n : ℕ) (en : n ≡ messagesOf w x) where
   pub too-many : isNumber n ≡ false → false ≡ messagesFit w x
   too-many h = rw (rw en at h)
@@ -163,17 +205,17 @@ module _ (w : Store) (x n : ℕ) (en : n ≡ messagesOf w x) where
       let m : k ≤ mostC = rw ek h in
       record { fits = omega (arith, mul-le-mul m l) }
 
-  module _ (t : ℕ) (et : t ≡ timeOf w x n) (h : isNumber n ≡ true) where
-    pub too-late : isNumber t ≡ false → false ≡ messagesFit w x
-    too-late l = rw (rw en at h, rw (et, en) at l)
+  module _ (h : isNumber n ≡ true) where
+    pub too-late : timeFits w x ≡ false → false ≡ messagesFit w x
+    too-late l = rw (rw en at h, l)
 
-    module _ (e k : ℕ) (ee : e ≡ endOf w x n) (ek : k ≡ cOf w x) (l : isNumber t ≡ true) where
+    module _ (e k : ℕ) (ee : e ≡ endOf w x n) (ek : k ≡ cOf w x) (l : timeFits w x ≡ true) where
       pub too-much : k * n < e → false ≡ messagesFit w x
       too-much o =
           let m : cOf w x * messagesOf w x < acceptedOf w x = rw (ek, ee, en) at o in
-          rw (rw en at h, rw (et, en) at l, lt-leb (acceptedOf w x) (cOf w x * messagesOf w x) m)
+          rw (rw en at h, l, lt-leb (acceptedOf w x) (cOf w x * messagesOf w x) m)
 
       pub ordered : e ≤ k * n → (r : Bool) → r ≡ inOrder w x n (ring - 1) → r ≡ messagesFit w x
       ordered o r f =
           let m : acceptedOf w x ≤ cOf w x * messagesOf w x = rw (ek, ee, en) at o in
-          rw (rw en at h, rw (et, en) at l, le-leb (acceptedOf w x) (cOf w x * messagesOf w x) m) (rw en at f)
+          rw (rw en at h, l, le-leb (acceptedOf w x) (cOf w x * messagesOf w x) m) (rw en at f)

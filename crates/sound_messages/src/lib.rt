@@ -1,13 +1,19 @@
 // Whether a channel's messages are in order: those that are not delivered, from the last one back.
+use kinds::Channel;
+use kinds::Route;
 use kinds::Slot;
 use store::channel;
 ghost use mathlib.Core.Path.{_≡_};
 ghost use Prim.Native.Nat.{_+_, _%_, _≤_, _<_};
 ghost use lib.Dec.{leb};
 ghost use Rattle.kinds.specs.Ranges.{mostChannels, mostHops, mostC, mostNumber};
-ghost use Rattle.store.specs.Layout.{Long, ring, cOf, pOf, hopsOf, timeOf};
+ghost use Rattle.store.specs.Layout.{Long, ring, cOf, pOf, hopsOf, messagesOf, timeOf};
 ghost use Rattle.store.specs.Amounts.{deliveredOf};
-ghost use Rattle.store.specs.Sound.{follows as followsIn, inOrder, messagesFit};
+ghost use Rattle.store.specs.Ranged.{SmallDelays};
+ghost use Rattle.store.specs.Sound.{follows as followsIn, inOrder, timeFits, messagesFit};
+
+// The latest time at the source that is not too large on the last link of any route.
+const EARLY: u64 = Slot::MOST - (Route::MOST_HOPS as u64 - 1) * Channel::MOST_P;
 
 // Whether the message at place `at` of the ring is at least p after the one at place `before`.
 fn is_apart(store: &[u64], x: usize, before: usize, at: usize) -> bool
@@ -80,6 +86,31 @@ pub fn in_order(store: &[u64], x: usize, last: u64, most: u64) -> bool
     channel::end_in(store, x, at) <= sent
 }
 
+// Whether the logical time of the last message is not too large on the last link of its route. `n` are the messages. In a store
+// that calls lead to it is no later than `EARLY`, and the delays are not added up.
+fn time_fits(store: &[u64], x: usize, n: u64) -> bool
+    requires { ⌜ Long (now store) ⌝ }
+    requires { ⌜ x < mostChannels ⌝ }
+    requires { ⌜ n ≡ messagesOf (now store) x ⌝ }
+    requires { ⌜ 1 ≤ hopsOf (now store) x ⌝ }
+    requires { ⌜ hopsOf (now store) x ≤ mostHops ⌝ }
+    requires { ⌜ SmallDelays (now store) x (hopsOf (now store) x) ⌝ }
+    ensures { λ r. ⌜ r ≡ timeFits (now (store .entry)) x ⌝ }
+{
+    let time = channel::time(store, x, n);
+    if time <= EARLY {
+        return true;
+    }
+    if n == 0 {
+        return true;
+    }
+    if !Slot::is_number(time) {
+        return false;
+    }
+    let last = time + store_route::offset(store, x, channel::hops(store, x) - 1);
+    Slot::is_number(last)
+}
+
 // Whether a channel's messages are in order, and their numbers not too large.
 pub fn messages_fit(store: &[u64], x: usize) -> bool
     requires { ⌜ Long (now store) ⌝ }
@@ -87,13 +118,14 @@ pub fn messages_fit(store: &[u64], x: usize) -> bool
     requires { ⌜ cOf (now store) x ≤ mostC ⌝ }
     requires { ⌜ 1 ≤ hopsOf (now store) x ⌝ }
     requires { ⌜ hopsOf (now store) x ≤ mostHops ⌝ }
+    requires { ⌜ SmallDelays (now store) x (hopsOf (now store) x) ⌝ }
     ensures { λ r. ⌜ r ≡ messagesFit (now (store .entry)) x ⌝ }
 {
     let n = channel::messages(store, x);
     if !Slot::is_number(n) {
         return false;
     }
-    if !Slot::is_number(channel::time(store, x, n)) {
+    if !time_fits(store, x, n) {
         return false;
     }
     if channel::end(store, x, n) > channel::c(store, x) * n {

@@ -20,6 +20,10 @@ pub record Ranged (w : Store) (x : ℕ) : Type 0 where
   pub route-most : (j : ℕ) → j < hopsOf w x → routeOf w x j < mostLinks
   pub horizon-most : (j : ℕ) → j < hopsOf w x → horizonOf w (routeOf w x j) ≤ mostHorizon
 
+-- What adding up the delays of a channel before place j asks.
+abbrev pub SmallDelays : Store → (x j : ℕ) → Type 0
+SmallDelays w x j = (i : ℕ) → i < j → delayOf w x i ≤ mostP
+
 -- What is reserved on a later link is worked out from numbers like these: p, the horizon and the delay of the link before, the
 -- delay here.
 pub record Near (p h d′ d : ℕ) : Type 0 where

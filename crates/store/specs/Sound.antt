@@ -53,11 +53,18 @@ inOrder w x n zero = delivered w x n
 inOrder w x zero (suc kept) = delivered w x zero
 inOrder w x (suc n) (suc kept) = delivered w x (suc n) || (follows w x n && inOrder w x n kept)
 
--- "no other slot or message number exceeds 1,000,002,000,000": the last logical time is the largest; and packets accepted
--- are at most C for each message
+-- "no other slot .. exceeds 1,000,002,000,000": of a channel's slots the largest is the logical time of its last message on the
+-- last link of its route; without a message there is none
+abbrev pub lastTimeOf : Store → (x : ℕ) → ℕ
+lastTimeOf w x = timeOf w x (messagesOf w x) + sumTo (delayOf w x) (hopsOf w x - 1)
+
+abbrev pub timeFits : Store → (x : ℕ) → Bool
+timeFits w x = eqb (messagesOf w x) 0 || isNumber (lastTimeOf w x)
+
+-- ".. or message number"; and packets accepted are at most C for each message
 abbrev pub messagesFit : Store → (x : ℕ) → Bool
 messagesFit w x =
-    (isNumber (messagesOf w x) && isNumber (timeOf w x (messagesOf w x)))
+    (isNumber (messagesOf w x) && timeFits w x)
     && (leb (acceptedOf w x) (cOf w x * messagesOf w x) && inOrder w x (messagesOf w x) (ring - 1))
 
 abbrev pub channelSound : Store → (x : ℕ) → Bool

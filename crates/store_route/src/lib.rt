@@ -9,11 +9,11 @@ ghost use mathlib.Core.Bool.{true};
 ghost use Prim.Native.Nat.{_+_, _≤_, _<_};
 ghost use lib.ListN.{length};
 ghost use Rattle.kinds.specs.Ranges.{mostLinks, mostChannels, mostHops, mostC};
-ghost use Rattle.store.specs.Layout.{Long, linksOf, hopsOf, sentOf};
-ghost use Rattle.folds.specs.Folds.{every, firstNot};
+ghost use Rattle.store.specs.Layout.{Long, linksOf, hopsOf, delayOf, sentOf};
+ghost use Rattle.folds.specs.Folds.{every, firstNot, sumTo};
 ghost use Rattle.store.specs.Route.{from, exists, isNew, joins, Known, routePasses};
 ghost use Rattle.store.specs.Amounts.{laterReserved, reservedOf, enteredOf, heldOf};
-ghost use Rattle.store.specs.Ranged.{Ranged, Near};
+ghost use Rattle.store.specs.Ranged.{Ranged, SmallDelays, Near};
 
 // 3: the first place with a link number that does not exist, or `n`.
 pub fn unknown_link(store: &[u64], numbers: &[u64], at: usize, n: usize) -> usize
@@ -141,6 +141,23 @@ pub fn reserved(store: &[u64], x: usize, j: usize) -> u64
     let before = channel::delay(store, x, j - 1);
     let here = channel::delay(store, x, j);
     later_reserved(c, channel::p(store, x), horizon, before, here)
+}
+
+// The delays of a channel before place `j` of its route.
+pub fn offset(store: &[u64], x: usize, j: usize) -> u64
+    requires { ⌜ Long (now store) ⌝ }
+    requires { ⌜ x < mostChannels ⌝ }
+    requires { ⌜ j < mostHops ⌝ }
+    requires { ⌜ SmallDelays (now store) x j ⌝ }
+    ensures { λ r. ⌜ r ≡ sumTo (delayOf (now (store .entry)) x) j ⌝ }
+{
+    let mut sum: u64 = 0;
+    let mut i: usize = 0;
+    while i < j {
+        sum += channel::delay(store, x, i);
+        i += 1;
+    }
+    sum
 }
 
 // The packets that have come to place `j` of a channel's route.

@@ -8,7 +8,8 @@ use Rattle.store.specs.Layout.{Store, numberAt, channelAt, recordLength, ring, 
 use Rattle.store.specs.Layout.{bufferOf, cOf, pOf, dOf, bOf, hopsOf, messagesOf, routeOf, delayOf, sentOf, timeOf, endOf, cAt}
 use Rattle.store.specs.Layout.{pAt, dAt, bAt, hopsAt, messagesAt, routeAt, delayAt, sentAt, timeAt, endAt, IsChannel}
 use Rattle.store.specs.Amounts.{reservedOf, acceptedOf, deliveredOf, enteredOf, heldOf, reservedAlong}
-use Rattle.store.specs.Sound.{delivered, follows, inOrder}
+use Rattle.store.specs.Sound.{delivered, follows, inOrder, lastTimeOf}
+use Rattle.folds.proofs.Folds.{sum-same}
 use Rattle.store.proofs.Laws.Sound.{Good345, ChannelIs}
 
 -- the links and their own numbers; rows are not among them
@@ -90,8 +91,13 @@ module _ {w w′ : Store} {x : ℕ} (same : SameRecord w w′ x) where
   pub held-same : (j : ℕ) → j < mostHops → heldOf w′ x j ≡ heldOf w x j
   held-same j h = rw (entered-same j h, sent-same j h)
 
-  -- the order of its messages
+  -- the time and the order of its messages
   module _ (few : hopsOf w x ≤ mostHops) where
+    last-time-same : lastTimeOf w′ x ≡ lastTimeOf w x
+    last-time-same =
+        rw (messages-same, time-same (messagesOf w x), hops-same)
+        (rw (sum-same (delayOf w′ x) (delayOf w x) (hopsOf w x - 1) (λ i h. delay-same i (omega arith))))
+
     pub delivered-same : deliveredOf w′ x ≡ deliveredOf w x
     delivered-same = rw hops-same (sent-same (hopsOf w x - 1) (omega arith))
 
@@ -132,7 +138,7 @@ module _ {w w′ : Store} {x : ℕ} (same : SameRecord w w′ x) where
       course = record {
         flows = λ j h. let i = old j h in rw (sent-same j (inside j i), entered-same j (inside j i)) (k .course .flows j i);
         messages-most = rw messages-same (k .course .messages-most);
-        time-most = rw (messages-same, time-same (messagesOf w x)) (k .course .time-most);
+        time-most = λ h. rw (last-time-same (k .hops-most)) (k .course .time-most (rw messages-same at h));
         accepted-most = rw (accepted-same, c-same, messages-same) (k .course .accepted-most);
         order = rw (messages-same, order-same (k .hops-most) (messagesOf w x) (ring - 1)) (k .course .order);
       };

@@ -1,7 +1,7 @@
 -- Two stores of which the second has all that set-up and opens have settled in the first: the network, every link's rows, and
 -- each channel's numbers, route and delays. Only the clock, and how far channels are, may differ. Such a store is sound where
 -- those are.
-use Prim.Native.Nat.{ℕ, zero, suc, _≤_, _<_}
+use Prim.Native.Nat.{ℕ, zero, suc, _-_, _≤_, _<_}
 use mathlib.Core.Path.{_≡_}
 use native.Mathlib.Omega.{arith}
 use lib.ListN.{length}
@@ -13,7 +13,7 @@ use Rattle.store.specs.Layout.{hopsOf, routeOf, delayOf, IsChannel}
 use Rattle.folds.specs.Folds.{sumTo}
 use Rattle.store.specs.Amounts.{reservedOf, heldOf, reservedAlong}
 use Rattle.store.specs.Sound.{rowDelayOf, rowReservedOf}
-use Rattle.folds.proofs.Folds.{sum-mono}
+use Rattle.folds.proofs.Folds.{sum-mono, sum-same}
 use Rattle.store.proofs.Laws.Sound.{LinkIs, CourseIs, ChannelIs, RowIs, Before, RowsAre, RowFor, Sound}
 use Rattle.store.proofs.Laws.Few.{few-channels, few-links, few-places, few-rows}
 use Rattle.store_same.proofs.Same.{SameNetwork, good-same}
@@ -92,6 +92,14 @@ module _ {w w′ : Store} (s : Settled w w′) where
           few-links sound (routeOf w x j) (sound .channel x h .route .known j (omega arith)) in
           rw (c-kept x a, p-kept x a, route-kept x a j n, network-same .horizon (routeOf w x j) m, delay-kept x a j n)
           (rw (delay-kept x a (suc j) l))
+
+      -- the delays before the last link
+      pub offset-kept : sumTo (delayOf w′ x) (hopsOf w′ x - 1) ≡ sumTo (delayOf w x) (hopsOf w x - 1)
+      offset-kept =
+          let a : x < mostChannels = few-channels sound x h in
+          rw (hops-kept x a)
+          (sum-same (delayOf w′ x) (delayOf w x) (hopsOf w x - 1) (λ i l.
+          delay-kept x a i (few-places sound x i h (omega arith))))
 
       pub channel-kept : CourseIs w′ x → ChannelIs w′ x
       channel-kept k = record {

@@ -169,6 +169,9 @@ store-route-later-reserved κs a = whole answer
 pub store-route-reserved : Unique store-route.reserved.ended store-route.reserved.Reads.Post
 store-route-reserved κs a = whole answer
 
+pub store-route-offset : Unique store-route.offset.ended store-route.offset.Reads.Post
+store-route-offset κs a = whole answer
+
 pub store-route-entered : Unique store-route.entered.ended store-route.entered.Reads.Post
 store-route-entered κs a = whole answer
 

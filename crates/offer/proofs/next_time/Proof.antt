@@ -24,9 +24,10 @@ p-requires c κs = let s = c .before .before .before .before .before in readable
 
 add-after : tie.Need-add-after
 add-after c =
-    let m = c .before .before .before in
+    let z = c .before .before in
+    let m = z .before in
     let s = m .before .before .before in
-    time-fits _ _ (s .pre .0) (s .pre .1) _ _ _ (m .messages .ensures) (c .before .time .ensures) (c .p .ensures)
+    time-fits _ _ (s .pre .0) (s .pre .1) _ _ _ (m .messages .ensures) (z .if1 .left) (c .before .time .ensures) (c .p .ensures)
 
 returns-2 : tie.Need-returns-2
 returns-2 c =

@@ -4,7 +4,7 @@ use mathlib.Core.Path.{_≡_}
 use native.Mathlib.Omega.{arith}
 use Rattle.slot_rules.specs.Head.{logicalOf}
 use Rattle.store.proofs.Laws.Rows.{place-ready, place-ranged}
-use Rattle.slot_packet.proofs.Laws.{found-inside, logical-is, logical-most}
+use Rattle.slot_packet.proofs.Laws.{found-inside, logical-is, logical-most, delays-small}
 use Rattle.slot_packet.proofs.logical.Statement.{statement}
 use Rattle.slot_packet.proofs.logical.Tie as tie
 
@@ -30,7 +30,8 @@ time-in-requires c κs =
 offset-requires : tie.Need-offset-requires
 offset-requires c κs =
     let (e, (h, (l, f))) = c .before .before .before .pre in
-    (place-ranged _ e _ _ h l, l)
+    let r = place-ready _ e _ _ h l in
+    (r .0, (r .1 .0, (r .1 .1, delays-small _ e _ _ h l)))
 
 add-result : tie.Need-add-result
 add-result c =

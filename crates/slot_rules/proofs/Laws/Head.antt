@@ -11,7 +11,7 @@ use Rattle.store.specs.Layout.{Store, ring, cOf, pOf, hopsOf, messagesOf, sentO
 use Rattle.store.specs.Amounts.{acceptedOf, deliveredOf, enteredOf}
 use Rattle.store.specs.Sound.{delivered, follows, inOrder}
 use Rattle.folds.proofs.Folds.{below}
-use Rattle.store.proofs.Laws.Sound.{ChannelIs}
+use Rattle.store.proofs.Laws.Sound.{ChannelIs, last-most}
 use Rattle.slot_rules.specs.Head.{messageWith, messageOf}
 
 -- Packet u is of message r, which is one of the `kept` last ones up to message n, and no later than `most`. It has at most C
@@ -104,4 +104,4 @@ module _ {w : Store} {x : ℕ} (k : ChannelIs w x) where
       → MessageIs w x (sentOf w x j) (messagesOf w x) (ring - 1) mostNumber (messageOf w x j)
   message-is j h i =
       message-found w x (sentOf w x j) (sent-least j h) (messagesOf w x) (ring - 1) mostNumber (k .course .order)
-      (omega (arith, entered-most j h)) (k .course .time-most)
+      (omega (arith, entered-most j h)) (last-most k (omega (arith, entered-most j h)))

@@ -1,6 +1,6 @@
 -- `sound_channel::channel_is_sound` meets its contract: part by part.
 use Rattle.kinds.proofs.Laws.{held, fails, passes}
-use Rattle.sound_channel.proofs.Laws.{sized}
+use Rattle.sound_channel.proofs.Laws.{sized, small-delays}
 use borrow.Author.Needs.{needs}
 use Rattle.sound_channel.proofs.channel_is_sound.Statement.{statement}
 use Rattle.sound_channel.proofs.channel_is_sound.Tie as tie
@@ -27,7 +27,8 @@ messages-fit-requires c κs =
     let s = c .before .before .before .before .before in
     let i = c .before .before in
     let z = sized (s .args .store .now) (s .args .x) (held (i .before .channel-fits .ensures) (i .if1 .left)) in
-    (s .pre .0, (s .pre .1 .1, (z .packets, (z .least, z .most))))
+    let small = small-delays z (held (c .before .places-fit .ensures) (c .if2 .left)) in
+    (s .pre .0, (s .pre .1 .1, (z .packets, (z .least, (z .most, small)))))
 
 returns-3 : tie.Need-returns-3
 returns-3 c =

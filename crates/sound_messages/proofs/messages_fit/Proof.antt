@@ -10,7 +10,7 @@ abbrev start : tie.Else1 → tie.Start
 start i = i .before .before .before .before
 
 abbrev counted : tie.After-c → tie.Else1
-counted k = k .before .before .before .before .before
+counted k = k .before .before .before .before
 
 messages-requires : tie.Need-messages-requires
 messages-requires c κs = search needs
@@ -24,20 +24,18 @@ returns c =
     let n = c .before in
     too-many (s .args .store .now) (s .args .x) _ (n .before .messages .ensures) (refuted (n .is-number .ensures) (c .if1 .taken))
 
-time-requires : tie.Need-time-requires
-time-requires c κs = search needs
-
-is-number-requires-2 : tie.Need-is-number-requires-2
-is-number-requires-2 c κs = search needs
+time-fits-requires : tie.Need-time-fits-requires
+time-fits-requires c κs =
+    let s = start c in
+    (s .pre .0, (s .pre .1 .0, (c .before .before .messages .ensures, s .pre .1 .1 .1)))
 
 returns-2 : tie.Need-returns-2
 returns-2 c =
-    let t = c .before .before in
-    let i = t .before in
+    let i = c .before .before in
     let s = start i in
     let n = i .before in
-    too-late (s .args .store .now) (s .args .x) _ (n .before .messages .ensures) _ (t .time .ensures)
-    (held (n .is-number .ensures) (i .if1 .left)) (refuted (c .before .is-number2 .ensures) (c .if2 .taken))
+    too-late (s .args .store .now) (s .args .x) _ (n .before .messages .ensures) (held (n .is-number .ensures) (i .if1 .left))
+    (refuted (c .before .time-fits .ensures) (c .if2 .taken))
 
 end-requires : tie.Need-end-requires
 end-requires c κs = search needs
@@ -57,13 +55,11 @@ returns-3 : tie.Need-returns-3
 returns-3 c =
     let k = c .before in
     let j = k .before .before in
-    let t = j .before .before in
     let i = counted k in
     let s = start i in
     let n = i .before in
-    too-much (s .args .store .now) (s .args .x) _ (n .before .messages .ensures) _ (t .time .ensures)
-    (held (n .is-number .ensures) (i .if1 .left)) _ _ (k .before .end .ensures) (k .c .ensures)
-    (held (j .before .is-number2 .ensures) (j .if2 .left)) (c .if3 .taken)
+    too-much (s .args .store .now) (s .args .x) _ (n .before .messages .ensures) (held (n .is-number .ensures) (i .if1 .left)) _ _
+    (k .before .end .ensures) (k .c .ensures) (held (j .before .time-fits .ensures) (j .if2 .left)) (c .if3 .taken)
 
 in-order-requires : tie.Need-in-order-requires
 in-order-requires c κs =
@@ -76,7 +72,7 @@ in-order-requires c κs =
         (
           few (s .args .store .now) (s .args .x) _ (n .before .messages .ensures)
               (held (n .is-number .ensures) (i .if1 .left)),
-          (s .pre .1 .1 .1 .0, s .pre .1 .1 .1 .1),
+          (s .pre .1 .1 .1 .0, s .pre .1 .1 .1 .1 .0),
         ),
       ),
     )
@@ -86,13 +82,12 @@ returns-4 c =
     let q = c .before in
     let k = q .before in
     let j = k .before .before in
-    let t = j .before .before in
     let i = counted k in
     let s = start i in
     let n = i .before in
-    ordered (s .args .store .now) (s .args .x) _ (n .before .messages .ensures) _ (t .time .ensures)
-    (held (n .is-number .ensures) (i .if1 .left)) _ _ (k .before .end .ensures) (k .c .ensures)
-    (held (j .before .is-number2 .ensures) (j .if2 .left)) (q .if3 .left) _ (c .in-order .ensures)
+    ordered (s .args .store .now) (s .args .x) _ (n .before .messages .ensures) (held (n .is-number .ensures) (i .if1 .left)) _ _
+    (k .before .end .ensures) (k .c .ensures) (held (j .before .time-fits .ensures) (j .if2 .left)) (q .if3 .left) _
+    (c .in-order .ensures)
 
 pub messages-fit-spec : {M : Type 1} → statement M
 messages-fit-spec =
@@ -101,8 +96,7 @@ messages-fit-spec =
     messages-requires
     is-number-requires
     returns
-    time-requires
-    is-number-requires-2
+    time-fits-requires
     returns-2
     end-requires
     c-requires

@@ -3,12 +3,13 @@ use Prim.Native.Nat.{ℕ, zero, suc, _-_, _*_, _≤_, _<_}
 use mathlib.Core.Path.{_≡_, refl}
 use mathlib.Core.Bool.{Bool, true, false, _&&_, _||_, and-eq-true-iff}
 use mathlib.Core.Logic.{_⊎_, inl, inr}
+use native.Mathlib.Nat.{le-trans}
 use native.Mathlib.Omega.{arith}
 use lib.Dec.{eqb, leb, ltb}
 use lib.ListN.{length}
 use borrow.Author.Tests.{le-leb, leb-true, lt-ltb, ltb-true, eq-eqb, eqb-true, ne-eqb, eqb-false, not-true}
-use Rattle.kinds.specs.Ranges.{mostLinks, mostChannels, mostRows, mostHops, endSlot, mostNumber, inRangeLinks, inRangeChannels}
-use Rattle.kinds.specs.Ranges.{inRangeHops, isNumber, within}
+use Rattle.kinds.specs.Ranges.{mostLinks, mostChannels, mostRows, mostHops, mostP, endSlot, mostNumber, inRangeLinks}
+use Rattle.kinds.specs.Ranges.{inRangeChannels, inRangeHops, isNumber, within}
 use Rattle.kinds.specs.Checks.{linkPasses, channelPasses}
 use Rattle.kinds.proofs.Laws.{within-true, true-within, GoodLink, link-bounds, bounds-link, GoodChannel, channel-bounds}
 use Rattle.kinds.proofs.Laws.{bounds-channel}
@@ -18,11 +19,11 @@ use Rattle.store.specs.Layout.{delayOf, sentOf, timeOf, IsChannel}
 use Rattle.folds.specs.Folds.{every, sumTo}
 use Rattle.store.specs.Route.{exists, differs, isNew, joins, routePasses}
 use Rattle.store.specs.Amounts.{reservedOf, acceptedOf, enteredOf, heldOf}
-use Rattle.store.specs.Sound.{longEnough, countsFit, linkFits, channelFits, placeFits, channelSound, inOrder, rowStands}
-use Rattle.store.specs.Sound.{rowDelayOf, rowFollows, rowReservedOf, rowHolds, rowSound, rowsSound, rowIs, listed}
-use Rattle.store.specs.Sound.{allListed, soundOf}
-use Rattle.store.specs.Ranged.{Ranged, Fit}
-use Rattle.folds.proofs.Folds.{or-true, every-at, every-true, some-at, some-true}
+use Rattle.store.specs.Sound.{longEnough, countsFit, linkFits, channelFits, placeFits, channelSound, inOrder, lastTimeOf}
+use Rattle.store.specs.Sound.{timeFits, rowStands, rowDelayOf, rowFollows, rowReservedOf, rowHolds, rowSound, rowsSound}
+use Rattle.store.specs.Sound.{rowIs, listed, allListed, soundOf}
+use Rattle.store.specs.Ranged.{Ranged, SmallDelays, Fit}
+use Rattle.folds.proofs.Folds.{or-true, every-at, every-true, some-at, some-true, sum-most}
 
 -- Two tests that both hold.
 pub both : (a b : Bool) → a ≡ true → b ≡ true → (a && b) ≡ true
@@ -100,11 +101,22 @@ module _ (w : Store) (route : ℕ → ℕ) (n : ℕ) where
       (λ j h. every-true (differs route j) j (λ i l. rw (ne-eqb (route i) (route j) (g .new j i h l)))))
       (every-true (joins w route) n (joins-at g)))
 
+module _ (w : Store) (x : ℕ) where
+  pub time-is : timeFits w x ≡ true → 0 < messagesOf w x → lastTimeOf w x ≤ mostNumber
+  time-is e h = leb-true (lastTimeOf w x) mostNumber (rw (ne-eqb (messagesOf w x) 0 (λ z. omega arith)) at e)
+
+  pub is-time : (0 < messagesOf w x → lastTimeOf w x ≤ mostNumber) → timeFits w x ≡ true
+  is-time f = go (eqb (messagesOf w x) 0) refl
+    where
+      go : (t : Bool) → eqb (messagesOf w x) 0 ≡ t → (t || isNumber (lastTimeOf w x)) ≡ true
+      go true e = refl
+      go false e = le-leb (lastTimeOf w x) mostNumber (f (omega (arith, eqb-false (messagesOf w x) 0 e)))
+
 -- how far a channel is: its counts, and its messages
 pub record CourseIs (w : Store) (x : ℕ) : Type 0 where
   pub flows : (j : ℕ) → j < hopsOf w x → sentOf w x j ≤ enteredOf w x j
   pub messages-most : messagesOf w x ≤ mostNumber
-  pub time-most : timeOf w x (messagesOf w x) ≤ mostNumber
+  pub time-most : 0 < messagesOf w x → lastTimeOf w x ≤ mostNumber
   pub accepted-most : acceptedOf w x ≤ cOf w x * messagesOf w x
   pub order : inOrder w x (messagesOf w x) (ring - 1) ≡ true
 
@@ -126,7 +138,7 @@ module _ (w : Store) (x : ℕ) where
       let two = and-eq-true-iff (inRangeHops (hopsOf w x)) _ .0 (one .1) in
       let hops = within-true 1 mostHops (hopsOf w x) (two .0) in
       let rest = and-eq-true-iff (every (placeFits w x) (hopsOf w x)) _ .0 (fit .1) in
-      let sizes = and-eq-true-iff (isNumber (messagesOf w x) && isNumber (timeOf w x (messagesOf w x))) _ .0 (rest .1) in
+      let sizes = and-eq-true-iff (isNumber (messagesOf w x) && timeFits w x) _ .0 (rest .1) in
       let numbers = and-eq-true-iff (isNumber (messagesOf w x)) _ .0 (sizes .0) in
       let most = and-eq-true-iff (leb (acceptedOf w x) (cOf w x * messagesOf w x)) _ .0 (sizes .1) in
       record {
@@ -139,7 +151,7 @@ module _ (w : Store) (x : ℕ) where
         course = record {
           flows = λ j h. place j (every-at (placeFits w x) (hopsOf w x) (rest .0) j h) .1;
           messages-most = leb-true (messagesOf w x) mostNumber (numbers .0);
-          time-most = leb-true (timeOf w x (messagesOf w x)) mostNumber (numbers .1);
+          time-most = time-is w x (numbers .1);
           accepted-most = leb-true (acceptedOf w x) (cOf w x * messagesOf w x) (most .0);
           order = most .1;
         };
@@ -163,8 +175,24 @@ module _ (w : Store) (x : ℕ) where
       (le-leb (sentOf w x j) (enteredOf w x j) (k .course .flows j h))))
       (both _ _
       (both _ _ (le-leb (messagesOf w x) mostNumber (k .course .messages-most))
-      (le-leb (timeOf w x (messagesOf w x)) mostNumber (k .course .time-most)))
+      (is-time w x (k .course .time-most)))
       (both _ _ (le-leb (acceptedOf w x) (cOf w x * messagesOf w x) (k .course .accepted-most)) (k .course .order))))
+
+-- The delays before place j of a route, added up.
+pub offset-most : (w : Store) (x j : ℕ) → SmallDelays w x j → j < mostHops → sumTo (delayOf w x) j ≤ mostP * (mostHops - 1)
+offset-most w x j small h = omega (arith, sum-most (delayOf w x) mostP j small)
+
+module _ {w : Store} {x : ℕ} (k : ChannelIs w x) where
+  pub small-delays : (j : ℕ) → j ≤ hopsOf w x → SmallDelays w x j
+  small-delays j h i l = le-trans (k .delay-most i (omega arith)) (k .good .p-most)
+
+  -- where there are packets there is a message
+  pub last-most : 0 < acceptedOf w x → timeOf w x (messagesOf w x) ≤ mostNumber
+  last-most h = omega (arith, k .course .time-most (some (messagesOf w x) (k .course .accepted-most)))
+    where
+      some : (n : ℕ) → acceptedOf w x ≤ cOf w x * n → 0 < n
+      some zero l = absurd (omega arith)
+      some (suc n) l = omega arith
 
 -- What the first parts give to those that come after them.
 module _ (w : Store) (f : Fit w) where

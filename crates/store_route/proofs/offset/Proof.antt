@@ -1,12 +1,11 @@
--- `slot_packet::offset` meets its contract: the delays passed are summed.
+-- `store_route::offset` meets its contract: the delays passed are summed.
 use Prim.Native.Nat.{_-_, _≤_}
-use native.Mathlib.Nat.{le-trans}
 use native.Mathlib.Omega.{arith}
 use Rattle.kinds.specs.Ranges.{mostP}
 use Rattle.store.specs.Layout.{delayOf}
 use Rattle.folds.proofs.Adding.{Adding, adding-none, adding-more, adding-fits, adding-done}
-use Rattle.slot_packet.proofs.offset.Statement.{statement}
-use Rattle.slot_packet.proofs.offset.Tie as tie
+use Rattle.store_route.proofs.offset.Statement.{statement}
+use Rattle.store_route.proofs.offset.Tie as tie
 
 abbrev Inv-loop : tie.InvT-loop
 Inv-loop store x j sum₀ i₀ sum i = Adding (delayOf store x) mostP j i sum
@@ -19,8 +18,7 @@ small : (d : tie.After-delay Inv-loop μ-loop) → d .delay .result ≤ mostP
 small d =
     let t = d .before in
     let r = t .before .before .before .pre in
-    let most = r .0 .delay-most (t .before .loop .i) (omega (arith, t .loop-test .taken, r .1)) in
-    rw (d .delay .ensures) (le-trans most (r .0 .p-most))
+    rw (d .delay .ensures) (r .1 .1 .1 (t .before .loop .i) (t .loop-test .taken))
 
 loop-holds : tie.Need-loop-holds Inv-loop μ-loop
 loop-holds c = adding-none _ _ _
@@ -28,13 +26,13 @@ loop-holds c = adding-none _ _ _
 delay-requires : tie.Need-delay-requires Inv-loop μ-loop
 delay-requires c κs =
     let r = c .before .before .before .pre in
-    (r .0 .long, (r .0 .channel, omega (arith, c .loop-test .taken, r .0 .hops-most, r .1)))
+    (r .0, (r .1 .0, omega (arith, c .loop-test .taken, r .1 .1 .0)))
 
 add-sum : tie.Need-add-sum Inv-loop μ-loop
 add-sum c =
     let a = c .before .before in
     let r = a .before .before .pre in
-    adding-fits _ _ _ _ _ (a .loop .inv) (omega (arith, r .0 .hops-most, r .1)) (omega arith) _ (small c)
+    adding-fits _ _ _ _ _ (a .loop .inv) (omega (arith, r .1 .1 .0)) (omega arith) _ (small c)
 
 add-i : tie.Need-add-i Inv-loop μ-loop
 add-i c = omega arith
