@@ -9,7 +9,7 @@ use Rattle.response.specs.Right.{HasResponse}
 use Rattle.folds.specs.Folds.{sumTo}
 use Rattle.store.specs.Layout.{Store, numberAt, channelAt, channelsAt, rowsAt, rowsEnd, recordLength, channelsOf, clockOf}
 use Rattle.store.specs.Layout.{bufferOf, rowsOf, rowChannelOf, rowPlaceOf, cOf, pOf, dOf, bOf, hopsOf, messagesOf, routeOf}
-use Rattle.store.specs.Layout.{delayOf, sentOf, timeOf, endOf}
+use Rattle.store.specs.Layout.{delayOf, sentOf, endOf}
 use Rattle.store.specs.Sound.{soundOf}
 use Rattle.store.proofs.Laws.Sound.{Good345}
 use Rattle.open_rules.specs.Request.{Request, hops, link}
@@ -69,6 +69,5 @@ pub record After (w w′ : Store) (x : ℕ) (q : Request) (d : ℕ → ℕ) : Ty
   pub delay-is : (j : ℕ) → j < hops q → delayOf w′ x j ≡ d j
   pub messages-is : messagesOf w′ x ≡ 0
   pub sent-is : (j : ℕ) → j < hops q → sentOf w′ x j ≡ 0
-  pub time-is : timeOf w′ x 0 ≡ 0
   pub end-is : endOf w′ x 0 ≡ 0
   pub joined : (j : ℕ) → j < hops q → Joined w w′ (link q j) (rowsBefore w (link q j) (d j)) x j

@@ -4,7 +4,7 @@ use mathlib.Core.Path.{_≡_, sym, _∙_}
 use native.Mathlib.Omega.{arith}
 use Rattle.kinds.specs.Ranges.{mostLinks, mostChannels, mostHops, mostRows}
 use Rattle.store.specs.Layout.{Store, Long, numberAt, channelAt, channelsAt, cAt, pAt, dAt, bAt, hopsAt, messagesAt, routeAt}
-use Rattle.store.specs.Layout.{delayAt, sentAt, timeAt, endAt, channelsOf, withChannels, rowsOf, rowChannelOf, rowPlaceOf}
+use Rattle.store.specs.Layout.{delayAt, sentAt, endAt, channelsOf, withChannels, rowsOf, rowChannelOf, rowPlaceOf}
 use Rattle.store.specs.Layout.{routeOf, IsChannel}
 use Rattle.store.proofs.Laws.Layout.{written, beside, as-long}
 use Rattle.store.proofs.Laws.Sound.{Sound, sound-is}
@@ -14,7 +14,7 @@ use Rattle.open_rules.specs.Refusal.{delaysOf, opened}
 use Rattle.open_rules.proofs.Laws.Facts.{Early, Joined, After}
 use Rattle.open_rules.proofs.Laws.Written.{channel-length, channel-beside, channel-c, channel-p, channel-d, channel-b}
 use Rattle.open_rules.proofs.Laws.Written.{channel-hops, channel-route, channel-delay, channel-messages, channel-sent}
-use Rattle.open_rules.proofs.Laws.Written.{channel-time, channel-end}
+use Rattle.open_rules.proofs.Laws.Written.{channel-end}
 use Rattle.open_rules.proofs.Laws.Rows.{SameRows, same-rows, before-same, Joinable, beyond, joined-same, rows-length}
 use Rattle.open_rules.proofs.Laws.Rows.{rows-beside, rows-joined}
 
@@ -120,7 +120,6 @@ module _ (w : Store) (q : Request) (early : Early w q) where
           delay-is = λ j h. kept (delayAt x j) (omega arith) ∙ channel-delay w x q d few long most j h;
           messages-is = kept (messagesAt x) (omega arith) ∙ channel-messages w x q d few long most;
           sent-is = λ j h. kept (sentAt x j) (omega arith) ∙ channel-sent w x q d few long most j (omega arith);
-          time-is = kept (timeAt x 0) (omega arith) ∙ channel-time w x q d few long most;
           end-is = kept (endAt x 0) (omega arith) ∙ channel-end w x q d few long most;
           joined = joined-at;
         }

@@ -5,8 +5,8 @@ use native.Mathlib.Omega.{arith}
 use lib.ListN.{length, length-set}
 use Rattle.kinds.specs.Ranges.{mostChannels, mostHops}
 use Rattle.store.specs.Layout.{Store, Long, numberAt, channelAt, recordLength, cleared, cAt, pAt, dAt, bAt, hopsAt, messagesAt}
-use Rattle.store.specs.Layout.{routeAt, delayAt, sentAt, timeAt, endAt, cOf, pOf, dOf, bOf, hopsOf, messagesOf, routeOf, delayOf}
-use Rattle.store.specs.Layout.{sentOf, timeOf, endOf, withC, withP, withD, withB, withRoute, routeStart}
+use Rattle.store.specs.Layout.{routeAt, delayAt, sentAt, endAt, cOf, pOf, dOf, bOf, hopsOf, messagesOf, routeOf, delayOf}
+use Rattle.store.specs.Layout.{sentOf, endOf, withC, withP, withD, withB, withRoute, routeStart}
 use Rattle.store.proofs.Laws.Layout.{written, beside}
 use Rattle.folds.proofs.Folds.{below}
 use Rattle.store.proofs.Laws.Cleared.{cleared-length, cleared-beside, cleared-zero}
@@ -189,9 +189,6 @@ module _ (w : Store) (x : ℕ) (q : Request) (d : ℕ → ℕ) where
 
       pub channel-sent : (j : ℕ) → j < mostHops → sentOf whole x j ≡ 0
       channel-sent j h = channel-zero (sentAt x j) (omega arith) (omega arith) (λ i. omega arith) (λ i. omega arith)
-
-      pub channel-time : timeOf whole x 0 ≡ 0
-      channel-time = channel-zero (timeAt x 0) (omega arith) (omega arith) (λ i. omega arith) (λ i. omega arith)
 
       pub channel-end : endOf whole x 0 ≡ 0
       channel-end = channel-zero (endAt x 0) (omega arith) (omega arith) (λ i. omega arith) (λ i. omega arith)
