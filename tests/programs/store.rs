@@ -1,12 +1,15 @@
 // Set-up and sound stores: the library against tests/models/room.rs.
 //
 //   store damaged FILE       what crates/vectors_damage printed, worked out again
-//   store random COMMAND..   the library, behind COMMAND (tests/c/driver.c), says of over 100,000 stores whether they are
-//                            sound, and sets up some 3,000 networks, as tests/models/room.rs does
+//   store worked COMMAND..   the library, behind COMMAND (tests/c/driver.c), says of stores with large times whether they are
+//                            sound, as it is written out here
+//   store random COMMAND..   the library says of over 100,000 stores whether they are sound, and sets up some 3,000 networks,
+//                            as tests/models/room.rs does
 //
 // The stores are rooms that are sound as they are made, up to full ones; rooms made to break one rule and no other; sound
 // rooms with a number or a few changed; and stores of any numbers. So that no rule can be left out unseen, each has to be
 // the only one broken in a good many of them.
+use crate::asking::calls::told_offer;
 use crate::asking::questions::{Questions, HELD, LENGTHS};
 use crate::fail;
 use crate::models::room::{broken, set_up, Channel, Link, Room, Row, RULES, STORE};
@@ -179,6 +182,43 @@ fn listing() -> Room {
     }
 }
 
+// "no other slot or message number exceeds 1,000,002,000,000": a channel of that room, what stands there as the time of its
+// last message, and whether the store is then sound.
+const LAST_TIMES: [(usize, u64, bool); 8] = [
+    // two links, with a delay of 4 on the first
+    (0, 1_000_001_999_996, true),
+    (0, 1_000_001_999_997, false),
+    (0, 1_000_002_000_000, false),
+    // one link
+    (1, 1_000_002_000_000, true),
+    (1, 1_000_002_000_001, false),
+    // no message, so that nobody reads what stands there
+    (2, 1_000_002_000_000, true),
+    (2, 1_000_002_000_001, true),
+    (2, u64::MAX, true),
+];
+
+// The library says so when it is asked, and in an offer of no packets, which gives 12 in a sound store and 17 in another.
+fn worked(command: &[String]) {
+    let mut questions = Questions::new();
+    for (c, time, sound) in LAST_TIMES {
+        let mut room = listing();
+        let last = room.channels[c].messages as usize;
+        room.channels[c].time[last] = time;
+        let mut store = vec![0; STORE];
+        room.write(&mut store);
+        let why = format!("the last message of channel {c} at {time}");
+        if broken(&store).0.is_empty() != sound {
+            fail(format!("{why}: tests/models/room.rs says that the store breaks {:?}", broken(&store).0));
+        }
+        questions.become_store(&store);
+        questions.ask(format!("sound {STORE}"), (sound as u64).to_string(), why.clone());
+        questions.ask(format!("offer {STORE} 0 0"), told_offer(Err(if sound { 12 } else { 17 })), why);
+    }
+    questions.hold_against(command);
+    println!("store: {} stores with large times, as the library says", LAST_TIMES.len());
+}
+
 // What the program prints of one store.
 fn damages(store: &mut [u64]) -> String {
     let verdict = |store: &[u64]| if broken(store).0.is_empty() { " +" } else { " -" };
@@ -219,8 +259,9 @@ fn damaged(file: &str) {
 
 pub fn main(words: &[String]) {
     match words.split_first() {
+        Some((mode, command)) if mode == "worked" && !command.is_empty() => worked(command),
         Some((mode, command)) if mode == "random" && !command.is_empty() => random(command),
         Some((mode, [file])) if mode == "damaged" => damaged(file),
-        _ => fail("use: store damaged FILE, or store random COMMAND..".to_string()),
+        _ => fail("use: store damaged FILE, store worked COMMAND.. or store random COMMAND..".to_string()),
     }
 }
