@@ -166,6 +166,10 @@ impl Channel {
         broken.unless(self.delay.iter().all(|d| (1..=self.p).contains(d)), "delay");
     }
 
+    // As docs/DECISIONS.md, "Soundness, where the sentence leaves room", has them, and not as document 01's sentence would have
+    // to be read: "spacing", asked of any two messages under way, on one link or on two; "packets", of a whole message and
+    // not of what is on one link; "accepted" and "sent", which the sentence does not name; "messages", which bounds how many
+    // there are, where the sentence bounds their numbers, counted from 0; and "delivered", since 24 are kept.
     fn check_messages(&self, broken: &mut Broken) {
         broken.unless((0..self.sent.len()).all(|j| self.sent[j] <= self.come(j)), "sent");
         broken.unless(self.messages <= LATEST, "messages");

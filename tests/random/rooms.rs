@@ -1,6 +1,6 @@
 // Rooms, written to a store: sound as they are made, or with one flaw that is asked for by the name of a rule in
-// tests/models/room.rs. A flaw is kept apart from the other rules as well as may be; whether the store breaks that rule alone,
-// the caller sees.
+// tests/models/room.rs, which also says which rules are our choice. A flaw is kept apart from the other rules as well as may be;
+// whether the store breaks that rule alone, the caller sees.
 use super::Random;
 use crate::asking::questions::LENGTHS;
 use crate::fail;
