@@ -1,4 +1,4 @@
-mod Outcome
+pub mod Outcome
 mod Early
 mod Steps
 pub mod Laws

@@ -5,6 +5,7 @@ mod Invariant
 mod Opened
 mod Next
 mod Holds
+mod Rows
 mod Events
 mod Open
 mod Offer

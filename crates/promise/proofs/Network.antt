@@ -1,13 +1,14 @@
--- The network is the one that was set up: set-up writes it, and no call changes it.
+-- The network is the one that was set up: set-up writes it, in slot 0, and no call changes it.
 use Prim.Native.Nat.{ℕ, _≤_, _<_}
 use mathlib.Core.Path.{_≡_, _∙_}
 use mathlib.Core.List.{List}
 use native.Mathlib.Omega.{arith}
 use Rattle.kinds.specs.Ranges.{mostLinks}
-use Rattle.store.specs.Layout.{Store, linksOf}
+use Rattle.store.specs.Layout.{Store, linksOf, clockOf}
 use Rattle.store_same.proofs.Same.{SameNetwork}
 use Rattle.setup_list.specs.List.{linksIn}
 use Rattle.setup_fresh.proofs.Laws.Fresh.{fresh-links, fresh-from, fresh-to, fresh-horizon, fresh-buffer}
+use Rattle.setup_fresh.proofs.Laws.Fresh.{fresh-clock as clock-zero}
 use Rattle.setup.specs.declared.SetUp.the-variants.{Ready}
 use Rattle.setup.specs.SetUp.{setUpAnswer, setUpStore}
 use Rattle.setup.proofs.Laws.Answer.{Accepted, ready-accepted, ready-store, accepted-few}
@@ -24,6 +25,9 @@ network-made w links e =
       horizon-is = fresh-horizon w links (a .long) few;
       buffer-is = fresh-buffer w links (a .long) few;
     })
+
+pub fresh-clock : (w : Store) (links : List ℕ) → setUpAnswer w links ≡ Ready → clockOf (setUpStore w links) ≡ 0
+fresh-clock w links e = rw (ready-store w links e) (clock-zero w links)
 
 pub network-kept : {links : List ℕ} {w w′ : Store} → linksOf w ≤ mostLinks → SameNetwork w w′ → AsSetUp links w → AsSetUp links w′
 network-kept {links} {w} few same n = record {

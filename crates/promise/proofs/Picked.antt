@@ -41,7 +41,7 @@ module _ {links : List ℕ} {w : Store} {h : List Event} (i : Invariant links w 
 
   row-of : (k : HeldOn links w h l) → RowOf k
   row-of k =
-      let o = k .life in
+      let o = k .opening in
       let j : ℕ = k .place in
       let x : ℕ = k .channel in
       let on : routeOf w x j ≡ l = sym (link-is i o j (k .inside)) ∙ k .here in
@@ -84,7 +84,7 @@ module _ {links : List ℕ} {w : Store} {h : List Event} (i : Invariant links w 
     abbrev chosen : HeldOn links w h l
     chosen = record {
       channel = x;
-      life = o;
+      opening = o;
       place = j;
       inside = place;
       here = link-is i o j place ∙ stands .here;
@@ -98,10 +98,10 @@ module _ {links : List ℕ} {w : Store} {h : List Event} (i : Invariant links w 
     -- a packet of the same channel on this link is not before it
     own-order : (m : HeldOn links w h l) → m .channel ≡ x → Before (chosen .packet) (m .packet)
     own-order m same =
-        let on : routeOf w (m .channel) (m .place) ≡ l = sym (link-is i (m .life) (m .place) (m .inside)) ∙ m .here in
-        let spot : m .place ≡ j = one-place (m .channel) (m .place) same (inside i (m .life) (m .place) (m .inside)) on in
+        let on : routeOf w (m .channel) (m .place) ≡ l = sym (link-is i (m .opening) (m .place) (m .inside)) ∙ m .here in
+        let spot : m .place ≡ j = one-place (m .channel) (m .place) same (inside i (m .opening) (m .place) (m .inside)) on in
         let u = same-number (m .channel) (m .place) (m .packet) same spot
-        (number-of i (m .life) (m .place) (m .inside) (m .packet) (m .there)) in
+        (number-of i (m .opening) (m .place) (m .inside) (m .packet) (m .there)) in
         rw (u .is) (first-before i o j place some (u .number) (u .least) (u .inside))
       where
         one-place : (x′ j′ : ℕ) → x′ ≡ x → j′ < hopsOf w x′ → routeOf w x′ j′ ≡ l → j′ ≡ j

@@ -4,7 +4,7 @@ use Prim.Native.Nat.{ℕ}
 use mathlib.Core.Path.{_≡_, refl, ap, _∙_, sym}
 use mathlib.Core.List.{List, _++_, append-nil}
 use native.Mathlib.Omega.{arith}
-use Rattle.store.specs.Layout.{Store, clockOf}
+use Rattle.store.specs.Layout.{Store, channelsOf, clockOf}
 use Rattle.store.proofs.Laws.Sound.{is-sound}
 use Rattle.open_rules.specs.declared.Outcome.{Outcome}
 use Rattle.open_rules.specs.declared.Outcome.the-variants.{Accepted as Opened, Refused as NotOpened}
@@ -18,22 +18,25 @@ use Rattle.offer_rules.specs.Offer.{offerAnswer, offerStore}
 use Rattle.slot_rules.specs.Slot.{slotTurn, slotNumber}
 use Rattle.open_keeps.proofs.Kept.{clock-kept}
 use Rattle.offer_keeps.proofs.Frame.{offered-clock}
-use Rattle.open.proofs.Laws.{never-17 as open-never}
+use Rattle.open.proofs.Outcome.{outcome-is}
+use Rattle.open.proofs.Laws.{accepted-number, never-17 as open-never}
 use Rattle.promise_open.proofs.Granted.{open-kept, refused-store as refused-open}
 use Rattle.promise_offer.proofs.Answer.{accepted-is, never-17 as offer-never}
 use Rattle.promise_slot.proofs.Never.{never-17 as slot-never}
 use Rattle.promise.specs.Calls.{Call, Event, storeAfter, eventsIn, openEvents, offerEvents, Reached}
 use Rattle.promise.specs.Ours.{ours, Demand3}
-use Rattle.promise.specs.Promise.{Never17}
+use Rattle.promise.specs.Promise.{NewNumber, Never17, Promise}
 use Rattle.promise.specs.Calls.Call.{opens, offers, runs, skips}
 use Rattle.promise.specs.Calls.Reached.{fresh, next}
 use Rattle.promise.proofs.Invariant.{Invariant, as-opened}
-use Rattle.promise.proofs.Opened.{sends-count}
+use Rattle.promise.proofs.Opened.{known, sends-count}
+use Rattle.promise.proofs.Rows.{listed, route-is}
 use Rattle.promise.proofs.Holds.{never-over, in-order, conserved}
+use Rattle.promise.proofs.Network.{fresh-clock}
 use Rattle.promise.proofs.Open.{set-up-makes, open-keeps}
 use Rattle.promise.proofs.Offer.{offer-keeps}
 use Rattle.promise.proofs.Slot.{slot-call}
-use Rattle.promise.proofs.Skip.{skip-keeps, waits, idle-never, skip-never}
+use Rattle.promise.proofs.Skip.{skip-keeps, idles, skips as skips-are, idle-never, skip-never}
 use Rattle.promise.proofs.Slots.{slots}
 use Rattle.promise.proofs.Own.{own-answer}
 use Rattle.promise.proofs.Arrives.{never-late, arrives}
@@ -47,12 +50,12 @@ module _ {links : List ℕ} {w : Store} {h : List Event} (i : Invariant links w 
   -- each call; a refused one changes nothing
   open-call : (q : Request) → Invariant links (storeAfter ours (opens q) w) (h ++ eventsIn ours (opens q) w)
   unfolding storeAfter eventsIn openEvents
-  open-call q = go (openOutcome w q) refl
+  open-call q = go (openOutcome w q) (openAnswer w q .outcome) refl (outcome-is w q)
     where
-      go : (o : Outcome) → openOutcome w q ≡ o
-          → Invariant links (openStore w q) (h ++ openEvents (openOutcome w q) q (openAnswer w q))
-      go (Opened n) e = rw e (open-keeps i q n e)
-      go (NotOpened number place) e = rw (refused-open w q number place e, e, append-nil h) i
+      go : (o o′ : Outcome) → openOutcome w q ≡ o → o′ ≡ o
+          → Invariant links (openStore w q) (h ++ openEvents o′ q (openAnswer w q))
+      go (Opened n) o′ e f = rw f (open-keeps i q n e)
+      go (NotOpened number place) o′ e f = rw (refused-open w q number place e, f, append-nil h) i
 
   offer-call : (x packets : ℕ)
       → Invariant links (storeAfter ours (offers x packets) w) (h ++ eventsIn ours (offers x packets) w)
@@ -92,9 +95,14 @@ module _ {links : List ℕ} {w : Store} {h : List Event} (i : Invariant links w 
       let z : number ≡ 17 = rw e at f in
       slot-never (i .seen) (i .steady) (i .near) size place (rw z at e)
 
+  new-number : NewNumber ours links w h
+  new-number q x e o =
+      let number : x ≡ channelsOf w = accepted-number w q x (sym (outcome-is w q) ∙ e) in
+      omega (arith, number, known i o)
+
   never-17 : Never17 ours links w h
   never-17 = (
-    (λ q. open-never w q (is-sound w (i .seen .sound))),
+    (λ q place e. open-never w q (is-sound w (i .seen .sound)) place (sym (outcome-is w q) ∙ e)),
     (offer-never (i .seen) (i .steady) (i .burst)),
     (λ size e. slot-number size (slotTurn w size) refl (omega (arith, e))),
     idle-never i,
@@ -106,8 +114,8 @@ holds : (links : List ℕ) (w : Store) (h : List Event) → Reached ours links w
 holds links w h (fresh w₀ e) = set-up-makes w₀ links e
 holds links w h (next w₀ h₀ r y) = any-call (holds links w₀ h₀ r) y
 
-pub promise : Demand3
-promise links w h r =
+all-holds : (links : List ℕ) (w : Store) (h : List Event) → Reached ours links w h → Promise ours links w h
+all-holds links w h r =
     let i : Invariant links w h = holds links w h r in
     record {
       never-late = never-late i;
@@ -117,11 +125,18 @@ promise links w h r =
       conserved = conserved i;
       slots = slots i;
       clock-stays = (open-clock i, offer-clock i);
-      waits = waits i;
+      idles = idles i;
+      skips = skips-are i;
       never-17 = never-17 i;
+      new-number = new-number i;
       own-rule = λ x o packets. own-answer i x (o .request) (o .answer) (as-opened i x o) packets;
+      route-is = route-is i;
       as-set-up = i .network;
       as-opened = as-opened i;
+      listed = λ l m. listed i l (rw (i .network .links-are) m);
       counted = λ x o j l. sym (sends-count i o j l);
       was-opened = i .known;
     }
+
+pub promise : Demand3
+promise = record { starts = fresh-clock; holds = all-holds }

@@ -7,7 +7,7 @@ use mathlib.Core.List.{List}
 use native.Mathlib.Numerals.{add-one}
 use native.Mathlib.Omega.{arith}
 use lib.Dec.{leb, ltb}
-use borrow.Author.Tests.{ltb-true, ltb-false, leb-false}
+use borrow.Author.Tests.{ltb-true, ltb-false, leb-true, leb-false}
 use Rattle.kinds.specs.Ranges.{endSlot}
 use Rattle.schedule.specs.Lists.{Every}
 use Rattle.schedule.proofs.Lists.{every-append}
@@ -56,8 +56,10 @@ module _ {links : List ℕ} {w : Store} {h : List Event} (i : Invariant links w 
   unfolding slotTurn firstFailed
   no-room e f = rw (is-sound w (i .seen .sound), e, f)
 
-  ran : slotTurn w size ≡ Ran → Runs ours links w h size
-  ran e = record {
+  ran : clockOf w < endSlot → 5 * linksOf w ≤ size → slotTurn w size ≡ Ran → Runs ours links w h size
+  ran now wide e = record {
+    before = now;
+    room = omega (arith, wide, i .network .links-are);
     picks = λ l m. rw e (picks i l (rw (i .network .links-are) m));
     linked = rw (e, ← i .network .links-are) (to-linked w (linksOf w) (linksOf w) (omega arith));
     clock = rw e (clock-after (i .seen .sound) ∙ add-one (clockOf w));
@@ -67,8 +69,24 @@ module _ {links : List ℕ} {w : Store} {h : List Event} (i : Invariant links w 
   slots = go (ltb (clockOf w) endSlot) (leb (5 * linksOf w) size) refl refl
     where
       go : (a b : Bool) → ltb (clockOf w) endSlot ≡ a → leb (5 * linksOf w) size ≡ b → Progress ours links w h size
-      go true true e f = let r = runs (ltb-true (clockOf w) endSlot e) e f in inl (rw r, ran r)
+      go true true e f =
+          let now : clockOf w < endSlot = ltb-true (clockOf w) endSlot e in
+          let r = runs now e f in
+          inl (rw r, ran now (leb-true (5 * linksOf w) size f) r)
       go true false e f =
           let room : size < 5 * linksOf w = leb-false (5 * linksOf w) size f in
-          rw (no-room e f) (inr ((λ z. omega arith), refl, inr (omega (arith, room, i .network .links-are))))
-      go false b e f = rw (at-end e) (inr ((λ z. omega arith), refl, inl (omega (arith, ltb-false (clockOf w) endSlot e))))
+          let r = no-room e f in
+          inr (record {
+            why = inr (omega (arith, room, i .network .links-are));
+            number = λ z. let y : _≡_ {A = ℕ} 15 0 = rw r at z in omega arith;
+            silent = rw r;
+            store-is = rw r;
+          })
+      go false b e f =
+          let r = at-end e in
+          inr (record {
+            why = inl (omega (arith, ltb-false (clockOf w) endSlot e));
+            number = λ z. let y : _≡_ {A = ℕ} 14 0 = rw r at z in omega arith;
+            silent = rw r;
+            store-is = rw r;
+          })

@@ -18,7 +18,6 @@ use Rattle.slot_rules.specs.Slot.{Send}
 pub record Library : Type 0 where
   pub setUpAnswer : Store → (links : List ℕ) → SetUp
   pub setUpStore : Store → (links : List ℕ) → Store
-  pub openOutcome : Store → Request → Outcome
   pub openAnswer : Store → Request → Opening
   pub openStore : Store → Request → Store
   pub offerAnswer : Store → (channel packets : ℕ) → Offered
@@ -61,12 +60,12 @@ module _ (lib : Library) where
   storeAfter (skips slots) w = lib .skipStore w slots
 
   unfoldable pub eventsIn : Call → Store → List Event
-  eventsIn (opens q) w = openEvents (lib .openOutcome w q) q (lib .openAnswer w q)
+  eventsIn (opens q) w = openEvents (lib .openAnswer w q .outcome) q (lib .openAnswer w q)
   eventsIn (offers x packets) w = offerEvents (lib .offerAnswer w x packets) x packets
   eventsIn (runs size) w = map sent (lib .slotSent w size)
   eventsIn (skips slots) w = []
 
-  -- The stores that are reached from set-up, of any lent store with links that pass, by any calls in any order, each with all
+  -- The stores that are reached from set-up, of any lent store with links that it takes, by any calls in any order, each with all
   -- that has happened on the way.
   pub data Reached (links : List ℕ) : Store → List Event → Type 0 where
     fresh : (w : Store) → lib .setUpAnswer w links ≡ Ready → Reached links (lib .setUpStore w links) []

@@ -70,7 +70,7 @@ module _ {h : List Event} {x : ℕ} (o : WasOpened h x) where
   linkAt j = link (o .request) j
 
   -- what was sent on the link at place j; what has come there: at the first place what was accepted, later what was sent on the
-  -- link before
+  -- link before, as many packets from the first on (`InOrder`, of the promise, says that they are these)
   abbrev pub sendsAt : (j : ℕ) → List Send
   sendsAt j = sendsOn h x (linkAt j)
 

@@ -1,6 +1,6 @@
 -- Our library: the definitions that the contracts cite. Demand 3 is that it keeps the promise; `promise` in proofs/ is the proof.
 use Rattle.setup.specs.SetUp.{setUpAnswer, setUpStore}
-use Rattle.open_rules.specs.Open.{openOutcome, openAnswer, openStore}
+use Rattle.open_rules.specs.Open.{openAnswer, openStore}
 use Rattle.offer_rules.specs.Offer.{offerAnswer, offerStore}
 use Rattle.slot_rules.specs.Slot.{slotNumber, slotSent, slotStore}
 use Rattle.slot_rules.specs.Idle.{idleAnswer, skipAnswer, skipStore}
@@ -11,7 +11,6 @@ abbrev pub ours : Library
 ours = record {
   setUpAnswer = setUpAnswer;
   setUpStore = setUpStore;
-  openOutcome = openOutcome;
   openAnswer = openAnswer;
   openStore = openStore;
   offerAnswer = offerAnswer;

@@ -98,7 +98,7 @@ module _ (lib : Library) (links : List ℕ) where
         go (inl r) =
             two-sends (s .store) (s .events) (found .at) (keep (isLink (found .at)) sends) many
             (r .1 .picks (found .at) (found .inside))
-        go (inr r) = no-sends (found .at) sends many (r .1)
+        go (inr r) = no-sends (found .at) sends many (r .silent)
 
     stands-breaks : stands lib links s ≡ true → ⊥
     stands-breaks e = go (p .slots (size lib links))
@@ -112,7 +112,7 @@ module _ (lib : Library) (links : List ℕ) where
 
         go : Progress lib links (s .store) (s .events) (size lib links) → ⊥
         go (inl r) = eqb-false _ _ (not-true _ (both .1)) (r .1 .clock)
-        go (inr r) = why (r .2)
+        go (inr r) = why (r .why)
 
     broken-there : brokenAt lib links s ≡ true → ⊥
     broken-there e = go (either (late lib links s) (crowded lib links s || stands lib links s) e)
@@ -141,4 +141,4 @@ module _ (lib : Library) (links : List ℕ) where
       let w : Store = lib .setUpStore (replicate storeLength 0) links in
       let both = and-eq-true-iff (isReady (lib .setUpAnswer (replicate storeLength 0) links)) _ .0 e in
       let r = reached w [] calls (fresh (replicate storeLength 0) (ready _ (both .0))) in
-      broken-there (played lib links w [] calls) (keeps links _ _ r) (both .1)
+      broken-there (played lib links w [] calls) (keeps .holds links _ _ r) (both .1)

@@ -32,7 +32,7 @@ unfoldable pub anyLate : {h : List Event} {x : ℕ} (o : WasOpened h x) (t j : �
 anyLate o t j [] = false
 anyLate o t j (i ∷ rest) = leb (deadlineAt o j (i .logical)) t || anyLate o t j rest
 
--- on some place of a channel opened in `rest`, which is the last part of h
+-- on some place of a channel opened in `rest`, whose events are all in h
 unfoldable pub lateIn : (t : ℕ) (h rest : List Event) → ((e : Event) → e ∈ rest → e ∈ h) → Bool
 lateIn t h [] part = false
 lateIn t h (opened x q answer ∷ rest) part =
@@ -51,7 +51,7 @@ module _ (lib : Library) (links : List ℕ) where
   played w h [] = record { store = w; events = h }
   played w h (call ∷ rest) = played (storeAfter lib call w) (h ++ eventsIn lib call w) rest
 
-  -- a packet is late; the next slot sends two packets on one link; the clock does not rise in it
+  -- a packet is late; the next slot sends two packets on one link; the clock does not rise by one in it
   abbrev pub late : State → Bool
   late s = lateIn (clockOf (s .store)) (s .events) (s .events) (λ e m. m)
 

@@ -1,5 +1,5 @@
--- Libraries that are wrong in one call. Document 01 names three: "one that accepts all", "a slot that sends nothing", "one that
--- sends in slot 0 and then only moves the clock"; two more stand beside them.
+-- Libraries that are wrong in one call, an open or a slot. Document 01 names three: "one that accepts all", "a slot that sends
+-- nothing", "one that sends in slot 0 and then only moves the clock"; two more stand beside them.
 use Prim.Native.Nat.{ℕ, zero, suc, _+_}
 use mathlib.Core.Bool.{true, false}
 use mathlib.Core.List.{List, [], _∷_, _++_}
@@ -24,12 +24,11 @@ use Rattle.promise.specs.Calls.{Library}
 use Rattle.promise.specs.Ours.{ours}
 
 -- ours with another open and another slot; with another slot alone
-abbrev withCalls : (outcome : Store → Request → Outcome) → (answer : Store → Request → Opening)
-    → (opened : Store → Request → Store) → (sends : Store → (size : ℕ) → List Send) → (moved : Store → (size : ℕ) → Store) → Library
-withCalls outcome answer opened sends moved = record {
+abbrev withCalls : (answer : Store → Request → Opening) → (opened : Store → Request → Store)
+    → (sends : Store → (size : ℕ) → List Send) → (moved : Store → (size : ℕ) → Store) → Library
+withCalls answer opened sends moved = record {
   setUpAnswer = ours .setUpAnswer;
   setUpStore = ours .setUpStore;
-  openOutcome = outcome;
   openAnswer = answer;
   openStore = opened;
   offerAnswer = ours .offerAnswer;
@@ -43,7 +42,7 @@ withCalls outcome answer opened sends moved = record {
 }
 
 abbrev withSlot : (sends : Store → (size : ℕ) → List Send) → (moved : Store → (size : ℕ) → Store) → Library
-withSlot = withCalls openOutcome openAnswer openStore
+withSlot = withCalls openAnswer openStore
 
 -- a slot that runs only moves the clock
 abbrev onlyClock : Turn → Store → Store
@@ -104,10 +103,6 @@ abbrev pub sendsAllAtOnce : Library
 sendsAllAtOnce = withSlot (λ w size. sendsOn (slotTurn w size) w) (λ w size. storeOn (slotTurn w size) w)
 
 -- "one that accepts all": where ours refuses, the channel gets p as its delay on every link
-abbrev anyOutcome : Outcome → Store → Outcome
-anyOutcome (Accepted channel) w = Accepted channel
-anyOutcome (Refused number place) w = Accepted (channelsOf w)
-
 abbrev anyAnswer : Outcome → Store → Request → Opening
 anyAnswer (Accepted channel) w q = openAnswer w q
 anyAnswer (Refused number place) w q = record {
@@ -123,5 +118,4 @@ anyStore (Refused number place) w q =
     withChannels (rowsJoined (channelWritten w (channelsOf w) q (λ j. q .p)) (channelsOf w) (hops q)) (channelsOf w + 1)
 
 abbrev pub acceptsAll : Library
-acceptsAll = withCalls (λ w q. anyOutcome (openOutcome w q) w) (λ w q. anyAnswer (openOutcome w q) w q)
-    (λ w q. anyStore (openOutcome w q) w q) slotSent slotStore
+acceptsAll = withCalls (λ w q. anyAnswer (openOutcome w q) w q) (λ w q. anyStore (openOutcome w q) w q) slotSent slotStore

@@ -30,7 +30,7 @@ wrongRuns =
       library = acceptsAll;
       calls = asked 1 1 1 ∷ (asked 1 1 1 ∷ (offers 0 1 ∷ (offers 1 1 ∷ (slot ∷ []))));
     }
-    -- the slot after these is slot 0 again
+    -- the slot after these leaves the clock at 0
     ∷ record { library = clockStands; calls = asked 1 1 1 ∷ (offers 0 1 ∷ []) }
     -- the slot after these sends two packets on one link
     ∷ record { library = sendsAllAtOnce; calls = asked 1 2 2 ∷ (asked 1 2 2 ∷ (offers 0 1 ∷ (offers 1 1 ∷ []))) }

@@ -1,27 +1,18 @@
 -- An accepted open has a route of at most eight links; and what its answer writes.
 use Prim.Native.Nat.{ℕ, _+_, _≤_}
-use mathlib.Core.Path.{_≡_, refl, sym, ap, subst, _∙_}
+use mathlib.Core.Path.{_≡_, sym, ap, subst, _∙_}
 use mathlib.Core.List.{List}
 use native.Mathlib.Omega.{arith}
 use lib.ListN.{length, drop, length-drop}
 use lib.Seq.{length-take-le}
 use Rattle.store.specs.Layout.{Store}
-use Rattle.open_rules.specs.declared.Outcome.{Outcome}
 use Rattle.open_rules.specs.declared.Outcome.the-variants.{Accepted, Refused}
 use Rattle.open_rules.specs.declared.Opening.{Opening}
-use Rattle.open_rules.specs.Request.{Request}
-use Rattle.open_rules.specs.Open.{openOutcome, openAnswer}
+use Rattle.open_rules.specs.Open.{openAnswer}
+use Rattle.open.proofs.Outcome.{outcome-is}
 use Rattle.open.proofs.Laws.{accepted-early}
 use Rattle.script_listing.specs.Listing.{channelLine, refusedLine}
 use Rattle.script_answer.specs.Answer.{requestIn, openOut, openedOut}
-
-outcome-is : (w : Store) (q : Request) → openAnswer w q .outcome ≡ openOutcome w q
-unfolding openAnswer
-outcome-is w q = go (openOutcome w q) refl
-  where
-    go : (o : Outcome) → openOutcome w q ≡ o → openAnswer w q .outcome ≡ openOutcome w q
-    go (Accepted x) e = rw (e, openAnswer)
-    go (Refused number place) e = rw (e, openAnswer)
 
 pub opened-few : (w : Store) (ns : List ℕ) (n x : ℕ) → 4 + n ≤ length ns
     → {r : Opening} → r ≡ openAnswer w (requestIn ns n) → r .outcome ≡ Accepted x → n ≤ 8
