@@ -19,9 +19,10 @@ use Rattle.folds.specs.Folds.{every, firstNot}
 use Rattle.store.specs.Route.{from, exists}
 use Rattle.folds.proofs.Folds.{every-at, Passing, passing-none, passing-more, passing-first, passing-end}
 use Rattle.store.proofs.Laws.Sound.{Sound}
-use Rattle.open_rules.specs.Search.{rowAt, rowsTo, newRow, oldResponse, position, newResponse, isFound, lengthOf, responds}
-use Rattle.open_rules.specs.Search.{responses}
+use Rattle.open_rules.specs.Search.{rowAt, rowsTo, newRow, oldResponse, hasResponse, position, newResponse, isFound, lengthOf}
+use Rattle.open_rules.specs.Search.{responds, responses}
 use Rattle.open_rules.specs.Shares.{eight}
+use Rattle.open_rules.proofs.Laws.Search.{Falling}
 use Rattle.open_rules.proofs.Laws.Eight.{eight-none, eight-more}
 use Rattle.open_rules.proofs.Laws.Ranged.{rows-most, c-most, delay-most, rows-ranged, all-ranged}
 use Rattle.open_search.proofs.Table.{Headed, Filled}
@@ -110,6 +111,11 @@ module _ (w : Store) (c p : ℕ) (route : List ℕ) where
   pub searching-none : (found t : List ℕ) → found ≡ replicate 8 0 → Headed c p t → Searching w c p route found t (length route) 0
   searching-none found t e g = record { passing = passing-none _ _; end = refl; written = e ∙ sym (eight-none _); table = g }
 
+  -- the next link's rows are put into the table
+  pub searching-table : {found t : List ℕ} {place j : ℕ} → Searching w c p route found t place j → {t′ : List ℕ} → Headed c p t′
+      → Searching w c p route found t′ place j
+  searching-table g h = record { passing = g .passing; end = g .end; written = g .written; table = h }
+
   pub searching-end : (found t : List ℕ) (place j : ℕ) → Searching w c p route found t place j → length route ≤ j
       → (place ≡ firstNot (responds w c p (from route 0)) (length route)) × (found ≡ eight (responses w c p (from route 0)) place)
   searching-end found t place j g h =
@@ -124,16 +130,20 @@ module _ (w : Store) (c p : ℕ) (route : List ℕ) where
         let z : 0 + j ≡ j = omega arith in
         ap (λ (i : ℕ). newResponse w c p (numberAt route i)) z ∙ sym e
 
-    pub searching-more : (r k : ℕ) → a ≡ Found r k → (t′ : List ℕ) → Headed c p t′
-        → Searching w c p route (set found j r) t′ place (j + 1)
-    searching-more r k f t′ g′ =
+    pub searching-more : (r k : ℕ) → a ≡ Found r k → Searching w c p route (set found j r) t place (j + 1)
+    searching-more r k f =
         record {
           passing = passing-more _ _ j (g .passing) h (ap isFound (here ∙ f));
           end = g .end;
           written = rw (eight-more (responses w c p (from route 0)) j, g .written, ap lengthOf (here ∙ f));
-          table = g′;
+          table = g .table;
         }
 
     pub searching-first : (k : ℕ) → a ≡ Nothing k
         → (j ≡ firstNot (responds w c p (from route 0)) (length route)) × (found ≡ eight (responses w c p (from route 0)) j)
     searching-first k f = (passing-first _ _ j (g .passing) h (ap isFound (here ∙ f)), g .written)
+
+-- the loop over the rows of link l: the same, and every row passed has a response below the new channel
+pub record Placing (w : Store) (c p : ℕ) (route found t : List ℕ) (place j l q : ℕ) : Type 0 where
+  pub searching : Searching w c p route found t place j
+  pub falling : Falling (hasResponse w c p l) (rowsOf w l) q

@@ -58,11 +58,9 @@ pub fn responses(
     ensures { λ r. ⌜ now (found .exit)
         ≡ eight (responsesOf (now (store .entry)) (asked .c) (asked .p) (from (now (route .entry)) 0)) r ⌝ }
 {
-    let c = asked.c;
-    let p = asked.p;
     let mut table = [0u64; 3 * Link::MOST_ROWS + 3];
-    table[0] = c;
-    table[1] = p;
+    table[0] = asked.c;
+    table[1] = asked.p;
     let mut place = route.len();
     let mut j: usize = 0;
     'search: while j < route.len() {
@@ -70,20 +68,22 @@ pub fn responses(
         put_rows(store, l, &mut table);
         // every row after position q has a response below the new channel
         let mut q = link::rows(store, l);
-        while q > 0 {
-            let own = table[3 * q];
-            let delay = table[3 * q + 2];
-            if let Answer::Found(_, _) = response_under(&table[..3 * q], own, delay) {
-                q -= 1;
-            } else {
-                break;
+        loop {
+            if q > 0 {
+                let own = table[3 * q];
+                let delay = table[3 * q + 2];
+                if let Answer::Found(_, _) = response_under(&table[..3 * q], own, delay) {
+                    q -= 1;
+                    continue;
+                }
             }
+            let Answer::Found(r, _) = response_under(&table[3..3 * q + 3], asked.c, asked.p) else {
+                place = j;
+                break 'search;
+            };
+            found[j] = r;
+            break;
         }
-        let Answer::Found(r, _) = response_under(&table[3..3 * q + 3], c, p) else {
-            place = j;
-            break 'search;
-        };
-        found[j] = r;
         j += 1;
     }
     place

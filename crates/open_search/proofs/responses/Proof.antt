@@ -13,25 +13,28 @@ use Rattle.response.specs.declared.Answer.{Answer}
 use Rattle.store.specs.Layout.{numberAt, linksOf, rowsOf}
 use Rattle.store.proofs.Laws.Sound.{Sound, sound-is}
 use Rattle.open_rules.specs.Search.{isFound, hasResponse, smallest, newResponse}
-use Rattle.open_rules.proofs.Laws.Search.{Falling, falling-none, falling-more, falling-stop, falling-end}
+use Rattle.open_rules.proofs.Laws.Search.{falling-none, falling-more, falling-stop, falling-end}
 use Rattle.open_rules.proofs.Laws.Ranged.{link-most, rows-most}
 use Rattle.open_search.proofs.Table.{filled}
 use Rattle.open_search.proofs.Steps.{link-there, Turn, few, old-workable, old-limit, old-answer, new-workable, new-limit}
-use Rattle.open_search.proofs.Steps.{new-answer, Searching, searching-none, searching-more, searching-first, searching-end}
+use Rattle.open_search.proofs.Steps.{new-answer, Searching, searching-none, searching-table, searching-more}
+use Rattle.open_search.proofs.Steps.{searching-first, searching-end, Placing}
 use Rattle.open_search.proofs.responses.Statement.{statement}
 use Rattle.open_search.proofs.responses.Tie as tie
 
 abbrev Inv-loop : tie.InvT-loop
-Inv-loop store route found c p table place j l q₀ q = Falling (hasResponse store c p l) (rowsOf store l) q
+Inv-loop store asked route found₀ table place₀ j l q₀ found place q =
+    Placing store (asked .c) (asked .p) route found table place j l q
 
 abbrev μ-loop : tie.MeasureT-loop
-μ-loop store route found c p table place j l q₀ q = q
+μ-loop store asked route found₀ table place₀ j l q₀ found place q = q
 
 abbrev Inv-search : tie.InvT-search
-Inv-search store route found₀ c p table₀ place₀ j₀ found table place j = Searching store c p route found table place j
+Inv-search store asked route found₀ table₀ place₀ j₀ found table place j =
+    Searching store (asked .c) (asked .p) route found table place j
 
 abbrev μ-search : tie.MeasureT-search
-μ-search store route found₀ c p table₀ place₀ j₀ found table place j = length route - j
+μ-search store asked route found₀ table₀ place₀ j₀ found table place j = length route - j
 
 -- Places of the code: a turn of the loop over the route, when its table is made, when a row is looked at, when there is an
 -- answer for an old row, when the position is found, when there is an answer for the new channel.
@@ -51,7 +54,7 @@ abbrev OldAnswered : Type 0
 OldAnswered = tie.After-response-under Inv-loop μ-loop Inv-search μ-search
 
 abbrev Placed : Type 0
-Placed = tie.Left-loop Inv-loop μ-loop Inv-search μ-search
+Placed = tie.Joined1 Inv-loop μ-loop Inv-search μ-search
 
 abbrev NewAnswered : Type 0
 NewAnswered = tie.After-response-under2 Inv-loop μ-loop Inv-search μ-search
@@ -103,7 +106,7 @@ turn r =
     }
 
 small : (b : AtRow) → b .loop .q ≤ mostRows
-small b = omega (arith, b .loop .inv .place, few _ _ _ _ _ (turn (b .before)))
+small b = omega (arith, b .loop .inv .falling .place, few _ _ _ _ _ (turn (b .before)))
 
 inside : (b : AtRow) → 3 * b .loop .q + 3 ≤ length (b .before .before .put-rows .last .1 .1 .0)
 inside b = omega (arith, small b, turn (b .before) .table .headed .size)
@@ -113,27 +116,28 @@ old : (a : OldAnswered) (b : Answer) → a .response-under .result ≡ b
     → tried (turning (a .before .before .before .before)) (a .before .before .before .loop .q - 1) ≡ isFound b
 old a b e =
     let t = a .before .before in
-    let f = old-answer _ _ _ _ _ (turn (t .before .before)) _ (t .loop-test .taken) (t .before .loop .inv .place) _ in
+    let f = old-answer _ _ _ _ _ (turn (t .before .before)) _ (t .if1 .taken) (t .before .loop .inv .falling .place) _ in
     ap isFound (sym (f (a .response-under .ensures)) ∙ e)
 
--- where the loop over rows is left, at its end or by the `break`, the position is found
+-- where no row is left, or the last one left has no response, the position is found
 found : (x : Placed)
     → x .before .loop .q
     ≡ smallest (tried (turning (x .before .before)))
     (rowsOf (start (turning (x .before .before)) .args .store .now) (link (turning (x .before .before))))
 found x =
-    ⊎-elim (λ e. falling-end _ _ _ (x .before .loop .inv) (e .left))
+    let g = x .before .loop .inv .falling in
+    ⊎-elim
     (λ e.
-    let row : tie.In-loop Inv-loop μ-loop Inv-search μ-search = record { before = x .before; loop-test = e .0 } in
+    let row : tie.Then1 Inv-loop μ-loop Inv-search μ-search = record { before = x .before; if1 = e .0 } in
     let a : OldAnswered = record { before = record { before = row; table2 = e .1 }; response-under = e .2 } in
-    falling-stop _ _ _ (x .before .loop .inv) (e .0 .taken) (old a _ (e .4 .given .1)))
-    (x .loop-test .came)
+    falling-stop _ _ _ g (e .0 .taken) (old a _ (e .4 .given .1)))
+    (λ e. falling-end _ _ _ g (e .left)) (x .if1 .came)
 
 -- and what it answers for the new channel
 new : (a : NewAnswered) → a .response-under2 .result ≡ answer (turning (tabled a))
 new a =
     let x = a .before .before .before in
-    new-answer _ _ _ _ _ (turn (tabled a)) _ (x .before .loop .inv .place) (found x) _ (a .response-under2 .ensures)
+    new-answer _ _ _ _ _ (turn (tabled a)) _ (x .before .loop .inv .falling .place) (found x) _ (a .response-under2 .ensures)
 
 array-write-table : tie.Need-array-write-table Inv-loop μ-loop Inv-search μ-search
 array-write-table c = search needs
@@ -159,7 +163,10 @@ rows-requires c κs =
     (sound (start t) .long, link-most _ (sound (start t)) _ (there t))
 
 loop-holds : tie.Need-loop-holds Inv-loop μ-loop Inv-search μ-search
-loop-holds c = falling-none _ _ _ (c .rows .ensures)
+loop-holds c = record {
+  searching = searching-table _ _ _ _ (turning c .before .search .inv) (turn c .table .headed);
+  falling = falling-none _ _ _ (c .rows .ensures);
+}
 
 mul-own : tie.Need-mul-own Inv-loop μ-loop Inv-search μ-search
 mul-own c = omega (arith, small (c .before))
@@ -196,8 +203,8 @@ response-under-requires : tie.Need-response-under-requires Inv-loop μ-loop Inv-
 response-under-requires c κs =
     let t = c .before in
     let g = turn (t .before .before) in
-    let place = t .before .loop .inv .place in
-    (old-workable _ _ _ _ _ g _ (t .loop-test .taken) place, old-limit _ _ _ _ _ g _ (t .loop-test .taken) place)
+    let place = t .before .loop .inv .falling .place in
+    (old-workable _ _ _ _ _ g _ (t .if1 .taken) place, old-limit _ _ _ _ _ g _ (t .if1 .taken) place)
 
 enum-told : tie.Need-enum-told Inv-loop μ-loop Inv-search μ-search
 enum-told c = search needs
@@ -212,7 +219,11 @@ loop-again : tie.Need-loop-again Inv-loop μ-loop Inv-search μ-search
 loop-again c =
     let a = c .before .before in
     let t = a .before .before in
-    falling-more _ _ _ (t .before .loop .inv) (t .loop-test .taken) (old a _ (c .enum-told .given .1))
+    let i = t .before .loop .inv in
+    record {
+      searching = i .searching;
+      falling = falling-more _ _ _ (i .falling) (t .if1 .taken) (old a _ (c .enum-told .given .1));
+    }
 
 enum-told-2 : tie.Need-enum-told-2 Inv-loop μ-loop Inv-search μ-search
 enum-told-2 c = search needs
@@ -236,7 +247,7 @@ response-under-requires-2 : tie.Need-response-under-requires-2 Inv-loop μ-loop 
 response-under-requires-2 c κs =
     let b = c .before .before .before in
     let g = turn (b .before) in
-    (new-workable _ _ _ _ _ g _ (b .loop .inv .place), omega (arith, new-limit _ _ _ _ _ g))
+    (new-workable _ _ _ _ _ g _ (b .loop .inv .falling .place), omega (arith, new-limit _ _ _ _ _ g))
 
 enum-known-r : tie.Need-enum-known-r Inv-loop μ-loop Inv-search μ-search
 enum-known-r c = search needs
@@ -260,8 +271,8 @@ search-again : tie.Need-search-again Inv-loop μ-loop Inv-search μ-search
 search-again c =
     let a = c .before .before .before in
     let t = turning (tabled a) in
-    searching-more _ _ _ _ _ _ _ _ (t .before .search .inv) (t .search-test .taken) _ (new a) _ _ (c .before .r .given .1) _
-    (turn (tabled a) .table .headed)
+    let i = a .before .before .before .before .loop .inv in
+    searching-more _ _ _ _ _ _ _ _ (i .searching) (t .search-test .taken) _ (new a) _ _ (c .before .r .given .1)
 
 returns : tie.Need-returns Inv-loop μ-loop Inv-search μ-search
 returns c = searching-end _ _ _ _ _ _ _ _ (c .before .search .inv) (c .search-test .left)
@@ -270,7 +281,8 @@ returns-2 : tie.Need-returns-2 Inv-loop μ-loop Inv-search μ-search
 returns-2 c =
     let a = c .before .before in
     let t = turning (tabled a) in
-    searching-first _ _ _ _ _ _ _ _ (t .before .search .inv) (t .search-test .taken) _ (new a) _ (c .enum-told3 .given .1)
+    let i = a .before .before .before .before .loop .inv in
+    searching-first _ _ _ _ _ _ _ _ (i .searching) (t .search-test .taken) _ (new a) _ (c .enum-told3 .given .1)
 
 pub responses-spec : {M : Type 1} → statement M
 responses-spec =
