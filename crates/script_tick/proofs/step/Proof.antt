@@ -67,7 +67,9 @@ skips : (c : tie.After-skipped) → let r = turned (c .before .before) in
 skips c = sym (c .before .before .skip .ensures .0) ∙ c .skipped .given .1
 
 sub-later : tie.Need-sub-later
-sub-later c = skip-few _ _ (skips (c .before))
+sub-later c =
+    let few = skip-few _ _ (skips (c .before)) in
+    omega (arith, few)
 
 returns-3 : tie.Need-returns-3
 returns-3 c =
