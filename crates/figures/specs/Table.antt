@@ -21,8 +21,8 @@ pub record Figure : Type 0 where
 abbrev pub Hold : List Figure → Type 0
 Hold figures = map (λ x. x .given) figures ≡ map (λ x. x .printed) figures
 
--- What is compared of an answer begins with the refusal's number and place, 0 and 0 where there is none. Then, of an open: nothing;
--- the responses on n links; these and the delays; the delays on two links and what is reserved on the second.
+-- What is compared of an answer begins with the refusal's number and place, 0 and 0 where there is none. Then, of an open:
+-- nothing; the responses on n links; these and the delays; the delays on two links and what is reserved on the second.
 unfoldable pub refused : Opening → List ℕ
 refused a = a .number ∷ a .place ∷ []
 
