@@ -1,20 +1,21 @@
--- What is still to be written, before and after a step.
+-- What is still to be written, before and after a part of a run.
 use Prim.Native.Nat.{ℕ, suc, _<_}
 use mathlib.Core.Path.{_≡_, refl}
 use mathlib.Core.Bool.{Bool, true, false}
-use mathlib.Core.List.{List, [], _++_, append-assoc}
+use mathlib.Core.List.{List, [], _∷_, _++_, append-assoc}
 use native.Mathlib.Omega.{arith}
 use lib.ListN.{take}
 use Rattle.text_decimal.specs.Decimal.{Text}
-use Rattle.text_decimal.specs.Put.{partOf}
+use Rattle.text_decimal.specs.Word.{lineFeed}
 use Rattle.store.specs.Layout.{Store}
 use Rattle.text_lines.specs.Lines.{linesFrom, ahead, feedAhead, mostKept}
 use Rattle.text_lines.proofs.Laws.{lines-fed, lines-unfed, beyond}
 use Rattle.script_tick.specs.Tick.{tickOut, tickStore, restStore, restOut as tickRest}
 use Rattle.script_play.specs.declared.Phase.{Phase}
+use Rattle.script_play.specs.declared.Phase.the-variants.{Over}
 use Rattle.script_play.specs.declared.Next.{Next}
 use Rattle.script_play.specs.declared.Next.the-variants.{Line, Slots}
-use Rattle.script_play.specs.Play.{Step, played, playedLinks}
+use Rattle.script_play.specs.Play.{Step, played, playedLinks, ended}
 use Rattle.script_run.specs.Listing.{nextOut, nextStore, pending, counted, linesOut, restOut}
 use Rattle.script_run.proofs.Cut.{before-cut, line-cut}
 
@@ -31,6 +32,12 @@ after-store : (over : Bool) (left : ℕ) (w : Store) → nextStore (afterTick ov
 after-store true left w = refl
 after-store false left w = refl
 
+-- the lines of a text that begins with a line feed
+fed-lines : (before rest : Text) → linesFrom before (lineFeed ∷ rest) ≡ before ∷ linesFrom [] rest
+unfolding linesFrom
+fed-lines [] rest = refl
+fed-lines (b ∷ before) rest = refl
+
 module _ (phase : Phase) (links : List ℕ) (lines : ℕ) where
   -- a piece of a tick
   pub tick-rest : (n left : ℕ) (over : Bool) (w later : Store) (part before rest : Text)
@@ -41,6 +48,16 @@ module _ (phase : Phase) (links : List ℕ) (lines : ℕ) where
   tick-rest n left over w later part before rest e f =
       rw (e, f, after-out over left later, after-store over left later, append-assoc)
 
+  -- a line whose line feed has come
+  module _ (w : Store) (text rest : Text) where
+    abbrev step : Step
+    step = played phase w links text (counted lines)
+
+    pub line-rest : restOut phase Line w links lines text (lineFeed ∷ rest)
+        ≡ step .out ++ restOut (step .phase) (step .next) (step .store) (playedLinks phase links text) (counted lines) [] rest
+    unfolding restOut linesOut
+    line-rest = rw (fed-lines text rest)
+
   module _ (w : Store) (before chunk more : Text) where
     -- a chunk with no line feed
     pub unfed-rest : feedAhead chunk ≡ false
@@ -49,27 +66,25 @@ module _ (phase : Phase) (links : List ℕ) (lines : ℕ) where
     unfolding restOut
     unfed-rest h = rw (lines-unfed before chunk more h) (before-cut phase w links lines (before ++ ahead chunk) more)
 
-    -- a line
-    abbrev step : Step
-    step = played phase w links (take mostKept (before ++ ahead chunk)) (counted lines)
-
+    -- and with one
     pub fed-rest : feedAhead chunk ≡ true
         → restOut phase Line w links lines before (chunk ++ more)
-        ≡ step .out ++ restOut (step .phase) (step .next) (step .store)
-        (playedLinks phase links (take mostKept (before ++ ahead chunk))) (counted lines) [] (beyond chunk ++ more)
-    unfolding restOut linesOut
+        ≡ restOut phase Line w links lines (take mostKept (before ++ ahead chunk)) (lineFeed ∷ (beyond chunk ++ more))
+    unfolding restOut
     fed-rest h =
-        rw (lines-fed before chunk more h)
+        rw (lines-fed before chunk more h, fed-lines (take mostKept (before ++ ahead chunk)) (beyond chunk ++ more))
         (line-cut phase w links lines (before ++ ahead chunk) (linesFrom [] (beyond chunk ++ more)))
 
--- The same for what the code has in its hands: what came next was a tick of n slots, and whether it is over has been looked at.
-pub piece-rest : (phase : Phase) (next : Next) (lines n left : ℕ) (over b : Bool) (w later : Store) (out : List ℕ) (at end : ℕ)
-    → next ≡ Slots n → over ≡ b → tickOut w n ≡ partOf out at end ++ tickRest over later left
-    → tickStore w n ≡ restStore over later left → (links : List ℕ) (before rest : Text)
-    → restOut phase next w links lines before rest
-    ≡ partOf out at end ++ restOut phase (afterTick b left) later links lines before rest
-piece-rest phase next lines n left over b w later out at end e o t s links before rest =
-    rw (e, ← o) (tick-rest phase links lines n left over w later (partOf out at end) before rest t s)
+-- A run that is over writes nothing, whatever comes.
+module _ (w : Store) (links : List ℕ) where
+  over-lines : (lines : ℕ) (texts : List Text) → linesOut Over w links lines texts ≡ []
+  unfolding linesOut played playedLinks ended
+  over-lines lines [] = refl
+  over-lines lines (text ∷ texts) = over-lines (counted lines) texts
+
+  pub over-rest : (lines : ℕ) (before rest : Text) → restOut Over Line w links lines before rest ≡ []
+  unfolding restOut
+  over-rest lines before rest = over-lines lines (linesFrom before rest)
 
 -- it falls from piece to piece
 pub pending-over : {n : ℕ} (next : Next) → next ≡ Slots n → 0 < pending next

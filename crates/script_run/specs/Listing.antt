@@ -1,11 +1,10 @@
 -- The listing of a script, whole: document 01, "The program's listing".
 use Prim.Native.Nat.{ℕ, suc, min}
-use mathlib.Core.Bool.{true, false}
 use mathlib.Core.List.{List, [], _∷_, _++_}
-use lib.ListN.{replicate, take}
+use lib.ListN.{replicate}
 use Rattle.text_decimal.specs.Decimal.{Text}
 use Rattle.store.specs.Layout.{Store, storeLength}
-use Rattle.text_lines.specs.Lines.{linesFrom, linesOf, ahead, feedAhead, mostKept}
+use Rattle.text_lines.specs.Lines.{linesFrom, linesOf}
 use Rattle.script_tick.specs.Tick.{tickOut, tickStore}
 use Rattle.script_play.specs.declared.Phase.{Phase}
 use Rattle.script_play.specs.declared.Phase.the-variants.{Before}
@@ -47,11 +46,3 @@ listing script = linesOut (Before 0) (replicate storeLength 0) (replicate linksL
 unfoldable pub restOut : Phase → Next → Store → (links : List ℕ) → (lines : ℕ) → (before rest : Text) → Text
 restOut phase next w links lines before rest =
     nextOut next w ++ linesOut phase (nextStore next w) links lines (linesFrom before rest)
-
--- what is written when a chunk comes: what its first line writes, if the chunk has the line's end
-unfoldable pub lineOut : Phase → Store → (links : List ℕ) → (lines : ℕ) → (before chunk : Text) → Text
-lineOut phase w links lines before chunk =
-    elim (feedAhead chunk) [
-      | true ↦ played phase w links (take mostKept (before ++ ahead chunk)) (counted lines) .out
-      | false ↦ []
-    ]

@@ -5,6 +5,7 @@ use Rattle.script_line.proofs as script-line
 use Rattle.script_listing.proofs as script-listing
 use Rattle.script_answer.proofs as script-answer
 use Rattle.script_play.proofs as script-play
+use Rattle.script_run.proofs as script-run
 use Rattle.unique.specs.Unique.{Unique}
 use Rattle.unique.proofs.Shapes.{whole, _&_, answer, first, second, third, fourth, fifth, sixth}
 
@@ -46,3 +47,6 @@ script-play-line κs a = whole (answer & first & second & sixth)
 
 pub script-play-finish : Unique script-play.finish.ended script-play.finish.Reads.Post
 script-play-finish κs a = whole (answer & first & fourth)
+
+pub script-run-start : Unique script-run.start.ended script-run.start.Reads.Post
+script-run-start κs a = whole answer
