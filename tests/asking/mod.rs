@@ -5,6 +5,8 @@ pub mod questions;
 pub mod scripts;
 use crate::fail;
 use std::io::{ErrorKind, Write};
+use std::os::fd::OwnedFd;
+use std::os::unix::net::UnixStream;
 use std::process::{Command, Stdio};
 use std::time::Duration;
 
@@ -30,6 +32,22 @@ pub fn output(command: &[String], input: Vec<u8>, piece: usize) -> Vec<u8> {
         _ if !output.status.success() => fail(format!("{command:?} ended with {}", output.status)),
         _ => output.stdout,
     }
+}
+
+// What `command` writes, to standard output and to standard error, where it reads `input`.
+pub fn written(command: &[String], input: Stdio) -> [Vec<u8>; 2] {
+    let output = Command::new(&command[0]).args(&command[1..]).stdin(input).output();
+    let output = output.unwrap_or_else(|e| fail(format!("{}: {e}", command[0])));
+    [output.stdout, output.stderr]
+}
+
+// Input of which these bytes can be read, and then a read fails: its other end, which has to be held as long, is still open and
+// has no more to give, and the reader may not wait.
+pub fn cut_short(bytes: &[u8]) -> std::io::Result<(UnixStream, Stdio)> {
+    let (mut ours, theirs) = UnixStream::pair()?;
+    ours.write_all(bytes)?;
+    theirs.set_nonblocking(true)?;
+    Ok((ours, Stdio::from(OwnedFd::from(theirs))))
 }
 
 // The lines that `command` answers to the questions in `text`.

@@ -3,6 +3,7 @@
 //   script play                           the listing of the script on standard input, as those two have it
 //   script worked DIR ROOMRUN..           every DIR/NAME.script, of which DIR/NAME.listing is the listing: by ROOMRUN, a
 //                                         command that reads a script and writes its listing, and here
+//   script cut ROOMRUN..                  scripts of which a part is read and then a read fails
 //   script random ROOMRUN.. -- DRIVER..   random scripts, of which ROOMRUN, the library behind DRIVER (tests/c/driver.c) and
 //                                         `play` have to make the same listing, byte for byte. LINES=N before the command
 //                                         plays about so many lines, SEED=N makes for others
@@ -11,7 +12,7 @@
 // script; they come in pieces of any size. So that nothing can be left out unseen, every refusal that a script can reach and
 // every kind of line that does not read have to come up a good many times. Stores that no script leads to are what `traffic
 // random` and `store random` have.
-use crate::asking::output;
+use crate::asking::{cut_short, output, written};
 use crate::asking::scripts::listings;
 use crate::counting::scripts::Counts;
 use crate::models::listing::{play, Listing};
@@ -20,8 +21,10 @@ use crate::random::rooms::Size;
 use crate::random::scripts::{crowded, refused, used};
 use crate::random::{Random, SEED};
 use crate::{fail, setting};
+use std::fs::File;
 use std::io::{Read, Write};
 use std::path::{Path, PathBuf};
+use std::process::Stdio;
 
 // About how many lines `random` plays.
 const LINES: u64 = 80_000;
@@ -86,6 +89,32 @@ fn worked(dir: &str, roomrun: &[String]) {
     println!("script: {} worked scripts, as document 01 has them", scripts.len());
 }
 
+// Where a read fails, that is said; what came in whole lines is in the listing, a part of a line is not played, and the network
+// is not set up, as it is at the end of a script.
+const CUT: [(&str, &str); 4] = [
+    ("", ""),
+    ("link 0 1 0 64\nlink 1 2 0 64\n", ""),
+    ("link 0 1 0 64\nopen 1 5 4 1 0\ntick 3\n", "links 1\nchannel 0 1/4/1\nslot 3\n"),
+    ("link 0 1 0 64\nopen 1 5 4 1 0\ntick 3\ntick 20", "links 1\nchannel 0 1/4/1\nslot 3\n"),
+];
+
+fn cut(roomrun: &[String]) {
+    let told = |input: Stdio, printed: &str, what: &str| {
+        let right = [printed, "roomrun: standard input cannot be read\n"];
+        let written = written(roomrun, input).map(|text| String::from_utf8_lossy(&text).to_string());
+        if written != right {
+            fail(format!("{what}: the program writes {written:?} where {right:?} is right"));
+        }
+    };
+    for (script, printed) in CUT {
+        let (_held, input) = cut_short(script.as_bytes()).unwrap_or_else(|e| fail(format!("no input that fails: {e}")));
+        told(input, printed, &format!("cut after {script:?}"));
+    }
+    let directory = File::open("/").unwrap_or_else(|e| fail(format!("/: {e}")));
+    told(directory.into(), "", "a directory");
+    println!("script: {} reads that failed", CUT.len() + 1);
+}
+
 // One long script and a few short ones.
 fn some_scripts(random: &Random) -> Vec<Vec<u8>> {
     let size = || random.pick(&[Size::Small, Size::Middle, Size::Full]);
@@ -142,7 +171,8 @@ pub fn main(words: &[String]) {
             std::io::stdout().write_all(&play(&script).out).unwrap_or_else(|e| fail(format!("no listing: {e}")));
         }
         [[mode, dir, roomrun @ ..]] if mode == "worked" && !roomrun.is_empty() => worked(dir, roomrun),
+        [[mode, roomrun @ ..]] if mode == "cut" && !roomrun.is_empty() => cut(roomrun),
         [[mode, roomrun @ ..], driver @ [_, ..]] if mode == "random" && !roomrun.is_empty() => random(roomrun, driver),
-        _ => fail("use: script play, script worked DIR ROOMRUN.., or script random ROOMRUN.. -- DRIVER..".to_string()),
+        _ => fail("use: script play, worked DIR ROOMRUN.., cut ROOMRUN.., or random ROOMRUN.. -- DRIVER..".to_string()),
     }
 }
