@@ -2,6 +2,8 @@
 // A call that can be refused returns the refusal number of document 01, or 0 where it ran, and a refused call writes no output
 // but `place` and, of an open, the numbers per link, which are then 0; a slot gives back its sends, and its number is lent, as
 // document 01 has it.
+#![tactic(auto)]
+
 ghost use Rattle.std.specs.Prelude.{◌≡◌, length};
 ghost use Rattle.open_rules.specs.Open.{open_answer, open_store, values_of as open_values};
 ghost use Rattle.store.specs.Sound.{sound_of};

@@ -1,5 +1,7 @@
 // The kinds of numbers that document 01 bounds. Each range stands once, here, beside its kind. A constructor (`new`) answers the
 // value, or the refusal number of the check that failed.
+#![tactic(auto)]
+
 ghost use Rattle.std.specs.Prelude.{◌≡◌};
 ghost use Rattle.kinds.specs.Ranges.{within, in_range_links, in_range_rows, in_range_channels, in_range_c, in_range_p, in_range_d};
 ghost use Rattle.kinds.specs.Ranges.{in_range_b, is_slot, is_number};

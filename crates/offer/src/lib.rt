@@ -1,5 +1,7 @@
 // Offering a message: document 01, "Offering". First the answer is worked out, and nothing is written; then, if it is yes, the
 // message is.
+#![tactic(auto)]
+
 ghost use Rattle.std.specs.Prelude.{◌≡◌, true, ◌≤◌};
 ghost use Rattle.kinds.specs.Ranges.{within};
 ghost use Rattle.store.specs.Layout.{c_of, messages_of, IsChannel};

@@ -1,5 +1,7 @@
 // Opening a channel: document 01, "Opening". First the answer is worked out, and nothing is written; then, if it is yes, the
 // channel and its rows are.
+#![tactic(auto)]
+
 ghost use Rattle.std.specs.Prelude.{◌≡◌};
 ghost use Rattle.open_rules.specs.Asked.{asking};
 ghost use Rattle.open_rules.specs.Open.{refusal, open_answer, open_store};

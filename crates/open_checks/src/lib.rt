@@ -1,4 +1,6 @@
 // The checks of an open that come before the search: 17, 14 and 1 to 7.
+#![tactic(auto)]
+
 ghost use Rattle.std.specs.Prelude.{◌≡◌, length};
 ghost use Rattle.store.specs.Layout.{Long, channels_of};
 ghost use Rattle.folds.specs.Folds.{first_not};

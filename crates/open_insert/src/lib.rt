@@ -1,4 +1,6 @@
 // The row of a new channel put into the order of a link's rows, by delay.
+#![tactic(auto)]
+
 ghost use Rattle.std.specs.Prelude.{◌≡◌, ◌-◌, ◌≤◌, ◌<◌};
 ghost use Rattle.kinds.specs.Ranges.{most_channels, most_hops};
 ghost use Rattle.store.specs.Layout.{rows_of, route_of, delay_of};

@@ -1,5 +1,7 @@
 // What an open answers: document 01, "Opening". specs/ says which open gives which answer and leaves which store; the crates
 // above work it out.
+#![tactic(auto)]
+
 use kinds::Route;
 
 // The channel's number, or the refusal's number and place.

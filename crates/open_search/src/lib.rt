@@ -1,5 +1,7 @@
 // The search of an open: document 01, "Opening", steps 1 to 3. On each link of the route, the place of the new channel and its
 // response there.
+#![tactic(auto)]
+
 ghost use Rattle.std.specs.Prelude.{◌≡◌, true, ◌≤◌, ◌<◌, length, replicate};
 ghost use Rattle.kinds.specs.Ranges.{most_hops, in_range_c, in_range_p};
 ghost use Rattle.store.specs.Layout.{links_of, rows_of};

@@ -1,5 +1,7 @@
 // How the asked delay is shared out along a route, and the packets reserved for it: document 01, "Opening". Arrays have a
 // number for each place of the route.
+#![tactic(auto)]
+
 ghost use Rattle.std.specs.Prelude.{◌≡◌, true, ◌≤◌, ◌<◌, length};
 ghost use Rattle.store.specs.Ranged.{most_reserved};
 ghost use Rattle.kinds.specs.Ranges.{most_hops, most_c, most_p, most_d, most_b};

@@ -1,4 +1,6 @@
 // What an accepted open writes: document 01, "Opening". The new channel's record, and its row on each link of its route.
+#![tactic(auto)]
+
 ghost use Rattle.std.specs.Prelude.{◌≡◌, ◌+◌, ◌≤◌, ◌<◌, length};
 ghost use Rattle.kinds.specs.Ranges.{most_channels, most_hops};
 ghost use Rattle.store.specs.Layout.{Long, number_at, route_of, with_channels};

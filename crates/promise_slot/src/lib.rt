@@ -1,1 +1,2 @@
 // No code: what a slot does to the plan and the traffic that crate `promise_view` sees in a store. The theorems are in proofs/.
+#![tactic(auto)]

@@ -1,5 +1,7 @@
 // The response-time calculation: document 01, "Response time". A link's table is a slice of numbers here, three a row:
 // C, p and delay.
+#![tactic(auto)]
+
 ghost use Rattle.std.specs.Prelude.{◌≡◌, true, ◌≤◌};
 ghost use Rattle.kinds.specs.Ranges.{most_p};
 ghost use Rattle.response.specs.Need.{need as need_of, start as start_of};

@@ -1,5 +1,7 @@
 // The response-time calculation on a table of rows. The borrow checker does not cover a `&[Row]`, so the functions over
 // one are thin, and proved by hand; the work is `response::response_alone`'s, on a slice of numbers.
+#![tactic(auto)]
+
 ghost use Rattle.std.specs.Prelude.{◌≡◌, ◌*◌, ◌<◌, ◌≤◌, length, get_or, take};
 ghost use Rattle.kinds.specs.Ranges.{most_rows};
 ghost use Rattle.response_table.specs.Rows.{zero_row, filled_of, with_row, alone_of_first};

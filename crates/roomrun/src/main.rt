@@ -1,6 +1,8 @@
 // roomrun: plays a script of requests and slots from standard input, and writes the listing of document 01 to standard output.
 // Everything that is decided is decided by the steps of crate `script_run`, and said of them; here chunks are read, and what each
 // step has put into the buffer is written out. docs/SCRIPT.md is the operator's reference.
+#![tactic(auto)]
+
 use libc::{STDERR_FILENO, STDIN_FILENO, STDOUT_FILENO};
 use script_listing::BUFFER;
 use script_play::LINKS;

@@ -1,4 +1,6 @@
 // What a line of a running room does, and what it writes into the listing.
+#![tactic(auto)]
+
 ghost use Rattle.std.specs.Prelude.{◌≡◌, ◌+◌, ◌≤◌, length};
 ghost use Rattle.text_decimal.specs.Put.{put_at};
 ghost use Rattle.open_rules.specs.Open.{open_answer, open_store};

@@ -1,4 +1,6 @@
 // A line of a script: its first word says what is asked, the numbers behind it are the arguments.
+#![tactic(auto)]
+
 ghost use Rattle.std.specs.Prelude.{◌≡◌, length, ◌≤◌};
 ghost use Rattle.text_decimal.specs.Put.{put_at};
 ghost use Rattle.text_decimal.specs.Word.{first_word};

@@ -1,4 +1,6 @@
 // What a line of a script does, and what it writes into the listing.
+#![tactic(auto)]
+
 ghost use Rattle.std.specs.Prelude.{◌≡◌, [], ◌+◌, ◌≤◌, min, length};
 ghost use Rattle.text_decimal.specs.Put.{put_at};
 ghost use Rattle.script_listing.specs.Buffer.{last_for_line, last_for_slot};

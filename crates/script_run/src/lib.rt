@@ -1,6 +1,8 @@
 // A run of the program, step by step: a script comes in chunks, the listing goes out through a buffer, which is written out after
 // each step. What a step puts into the buffer, and then what is still to be written, is what was to be written before it; so what
 // all steps put there, one after the other, is the listing.
+#![tactic(auto)]
+
 ghost use Rattle.std.specs.Prelude.{◌≡◌, true, false, List, [], ◌∷◌, ◌++◌, ℕ, ◌≤◌, ◌<◌, min, length, take, drop};
 ghost use Rattle.text_decimal.specs.Decimal.{Text};
 ghost use Rattle.text_decimal.specs.Word.{line_feed};

@@ -1,5 +1,7 @@
 // A `tick` line: slots are run, one after the other, and their sends written. A tick may write more than the buffer holds, so it
 // is run piece by piece. Slots in which nothing can be sent are skipped, however many there are.
+#![tactic(auto)]
+
 ghost use Rattle.std.specs.Prelude.{◌≡◌, false, ◌++◌, ◌≤◌, ◌<◌, take};
 ghost use Rattle.text_decimal.specs.Put.{part_of};
 ghost use Rattle.script_listing.specs.Buffer.{buffer_length, last_for_slot};

@@ -1,4 +1,6 @@
 // Network set-up: document 01, refusals 16 and 17.
+#![tactic(auto)]
+
 ghost use Rattle.std.specs.Prelude.{◌≡◌};
 ghost use Rattle.setup.specs.SetUp.{set_up_answer, set_up_store};
 

@@ -1,4 +1,6 @@
 // The store of a network just set up. What the store held is not read; every number of it is written.
+#![tactic(auto)]
+
 ghost use Rattle.std.specs.Prelude.{◌≡◌, ◌+◌, ◌*◌, ◌≤◌, ◌<◌, length};
 ghost use Rattle.kinds.specs.Ranges.{most_links};
 ghost use Rattle.store.specs.Layout.{Long};

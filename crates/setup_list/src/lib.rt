@@ -1,4 +1,6 @@
 // The lent list of links, numbers, four a link: from, to, horizon, buffer. How many there are, and the first that does not pass.
+#![tactic(auto)]
+
 ghost use Rattle.std.specs.Prelude.{◌≡◌, ◌≤◌, ◌<◌};
 ghost use Rattle.kinds.specs.Ranges.{most_links};
 ghost use Rattle.folds.specs.Folds.{first_not};

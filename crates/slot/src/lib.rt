@@ -1,5 +1,7 @@
 // Running a slot: document 01, "A slot". First it is found out whether the slot runs; then the sends go into the lent output, and
 // the picked packets move on.
+#![tactic(auto)]
+
 ghost use Rattle.std.specs.Prelude.{◌≡◌, length};
 ghost use Rattle.slot_rules.specs.Slot.{numbers, slot_number, slot_place, slot_sent, slot_store, slot_out};
 

@@ -1,4 +1,6 @@
 // Whether a slot runs: document 01, "A slot", and refusals 17, 14 and 15. Nothing is written but the picks.
+#![tactic(auto)]
+
 ghost use Rattle.std.specs.Prelude.{◌≡◌, true, ◌<◌};
 ghost use Rattle.store.specs.Layout.{links_of, hops_of, IsChannel};
 ghost use Rattle.folds.specs.Folds.{every};

@@ -1,5 +1,7 @@
 // What a slot does once every link has picked: the sends go into the lent output, and the picked packets move on. Document 01,
 // "A slot".
+#![tactic(auto)]
+
 ghost use Rattle.std.specs.Prelude.{◌≡◌, true, suc, ◌+◌, ◌*◌, ◌≤◌, ◌<◌, length};
 ghost use Rattle.kinds.specs.Ranges.{most_links, most_rows, most_channels, most_hops, end_slot};
 ghost use Rattle.store.specs.Layout.{Long, number_at, links_of, clock_of, row_channel_of, row_place_of, sent_of};

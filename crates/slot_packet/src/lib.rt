@@ -1,4 +1,6 @@
 // The packet of a channel that goes next at a place of its route: its message and its logical time. Document 01, "A slot".
+#![tactic(auto)]
+
 ghost use Rattle.std.specs.Prelude.{◌≡◌, true, ◌%◌, ◌<◌};
 ghost use Rattle.kinds.specs.Ranges.{most_channels, most_hops};
 ghost use Rattle.store.specs.Layout.{Long, ring, hops_of, IsChannel};

@@ -1,4 +1,6 @@
 // Which packet each link picks in a slot: document 01, "A slot". Nothing is written.
+#![tactic(auto)]
+
 ghost use Rattle.std.specs.Prelude.{◌≡◌, true, ◌<◌};
 ghost use Rattle.store.specs.Layout.{links_of};
 ghost use Rattle.store.specs.Sound.{sound_of};

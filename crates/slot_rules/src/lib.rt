@@ -1,5 +1,6 @@
 // What a slot and a wait answer: document 01, "A slot". specs/ says which slot sends what and leaves which store and output, and
 // how long nothing can be sent; the crates above work it out.
+#![tactic(auto)]
 
 // A slot ran, or was refused with a number and a place.
 #[derive(Drop)]

@@ -1,4 +1,6 @@
 // Long waits: how many slots from now no link can send in, and the clock moved on over them.
+#![tactic(auto)]
+
 ghost use Rattle.std.specs.Prelude.{◌≡◌, true, ◌-◌, ◌<◌, min};
 ghost use Rattle.store.specs.Layout.{links_of};
 ghost use Rattle.store.specs.Sound.{sound_of};

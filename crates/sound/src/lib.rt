@@ -1,5 +1,7 @@
 // Whether a store is sound: document 01, "A store is sound when: ..". Every call but set-up asks this first, so each part
 // is one pass over plain numbers. A part reads only what the parts before it have found in range.
+#![tactic(auto)]
+
 ghost use Rattle.std.specs.Prelude.{◌≡◌, true, ◌<◌};
 ghost use Rattle.kinds.specs.Ranges.{most_links};
 ghost use Rattle.store.specs.Layout.{Long, links_of, channels_of, rows_of, hops_of};

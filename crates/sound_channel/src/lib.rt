@@ -1,4 +1,6 @@
 // Whether a channel's record is sound: its own numbers, its route, how far it is, and its messages.
+#![tactic(auto)]
+
 ghost use Rattle.std.specs.Prelude.{◌≡◌, ◌≤◌, ◌<◌};
 ghost use Rattle.kinds.specs.Ranges.{most_links, most_channels, most_hops};
 ghost use Rattle.store.specs.Layout.{Long, links_of, hops_of, route_of};

@@ -1,4 +1,6 @@
 // Whether a channel's messages are in order: those that are not delivered, from the last one back.
+#![tactic(auto)]
+
 ghost use Rattle.std.specs.Prelude.{◌≡◌, ◌+◌, ◌%◌, ◌≤◌, ◌<◌, leb};
 ghost use Rattle.kinds.specs.Ranges.{most_channels, most_hops, most_c, most_number};
 ghost use Rattle.store.specs.Layout.{Long, ring, c_of, p_of, hops_of, messages_of, time_of};

@@ -1,5 +1,7 @@
 // Whether the rows of the links are sound: each is a channel routed over its link, they are in order, and they hold and take no
 // more than there is room for.
+#![tactic(auto)]
+
 ghost use Rattle.std.specs.Prelude.{◌≡◌, ◌<◌};
 ghost use Rattle.store.specs.Layout.{links_of};
 ghost use Rattle.folds.specs.Folds.{every};

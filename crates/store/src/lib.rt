@@ -1,5 +1,7 @@
 // The lent store: one slice of numbers. Every field has one function that reads it and one that writes it; nothing else
 // knows where it stands. docs/STORE.md has the layout as a table.
+#![tactic(auto)]
+
 pub mod head; // head.rt: how many links and channels there are, and the clock
 pub mod link; // link.rt: a link's record
 pub mod channel; // channel.rt: a channel's record

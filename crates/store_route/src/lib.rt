@@ -1,5 +1,7 @@
 // A route over the network: document 01's checks 3, 4 and 5, and what a channel has on a link of its route. A route is read
 // from `numbers`, from place `at` on: a lent one from 0, a stored one from its place in the store.
+#![tactic(auto)]
+
 ghost use Rattle.std.specs.Prelude.{◌≡◌, true, ◌+◌, ◌≤◌, ◌<◌, length};
 ghost use Rattle.kinds.specs.Ranges.{most_links, most_channels, most_hops, most_c};
 ghost use Rattle.store.specs.Layout.{Long, links_of, hops_of, delay_of, sent_of};

@@ -1,4 +1,6 @@
 // A number as text: document 01's "Numbers are decimal, .. and fit in 64 bits".
+#![tactic(auto)]
+
 ghost use Rattle.std.specs.Prelude.{◌≡◌, ◌+◌, ◌≤◌, length};
 ghost use Rattle.text_decimal.specs.Decimal.{decimal};
 ghost use Rattle.text_decimal.specs.Put.{put_at};

@@ -1,4 +1,6 @@
 // The lines of a script that comes in chunks.
+#![tactic(auto)]
+
 ghost use Rattle.std.specs.Prelude.{◌≡◌, ◌≤◌, length, drop};
 ghost use Rattle.text_decimal.specs.Put.{put_at};
 ghost use Rattle.text_lines.specs.Lines.{ahead, most_kept};

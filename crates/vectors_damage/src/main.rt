@@ -2,6 +2,8 @@
 // every number of the store whose value matters a line is printed: its place, its value, and whether the store is still
 // sound (+) or not (-) with one more, with one less, with 0 and with the largest number there. tests/programs/store.rs works
 // each line out again.
+#![tactic(auto)]
+
 ghost use Rattle.std.specs.Prelude.{◌<◌};
 ghost use Rattle.kinds.specs.Ranges.{most_links, most_channels, most_hops, most_rows};
 ghost use Rattle.store.specs.Layout.{Long};

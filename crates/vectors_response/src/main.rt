@@ -1,5 +1,7 @@
 // Worked responses: each line is a question to the response-time calculation and the library's answer.
 // tests/programs/response.rs works out every answer again from the question that stands on its line.
+#![tactic(auto)]
+
 ghost use Rattle.std.specs.Prelude.{◌≤◌};
 
 use kinds::Link;

@@ -4,40 +4,40 @@ use borrow.Author.Rules.{rules}
 use Rattle.kinds.proofs.Channel.passes.Statement.{statement}
 use Rattle.kinds.proofs.Channel.passes.Tie as tie
 
-c_in_range_requires : tie.Need-c-in-range-requires
+c_in_range_requires : tie.Need-c_in_range-requires
 c_in_range_requires c κs = search rules
 
-p_in_range_requires : tie.Need-p-in-range-requires
+p_in_range_requires : tie.Need-p_in_range-requires
 p_in_range_requires c κs = search rules
 
-d_in_range_requires : tie.Need-d-in-range-requires
+d_in_range_requires : tie.Need-d_in_range-requires
 d_in_range_requires c κs = search rules
 
-b_in_range_requires : tie.Need-b-in-range-requires
+b_in_range_requires : tie.Need-b_in_range-requires
 b_in_range_requires c κs = search rules
 
-returns : tie.Need-returns
+returns : tie.Need-returns-then-d_in_range
 returns c =
     let d = c.before in
     let b = d.before.before in
     let a = b.before.before in
-    goes _ _ _ _ a.before.c_in_range.ensures a.if1.true (goes _ _ _ _ b.before.p_in_range.ensures b.if2.true
-    (goes _ _ _ _ d.before.d_in_range.ensures d.if3.true c.b_in_range.ensures))
+    goes _ _ _ _ a.before.c_in_range.ensures a.if-c_in_range.true (goes _ _ _ _ b.before.p_in_range.ensures b.if-p_in_range.true
+    (goes _ _ _ _ d.before.d_in_range.ensures d.if-d_in_range.true c.b_in_range.ensures))
 
-returns_2 : tie.Need-returns-2
+returns_2 : tie.Need-returns-else-d_in_range
 returns_2 c =
     let b = c.before.before in
     let a = b.before.before in
-    goes _ _ _ _ a.before.c_in_range.ensures a.if1.true
-    (goes _ _ _ _ b.before.p_in_range.ensures b.if2.true (stops _ _ _ c.before.d_in_range.ensures c.if3.false))
+    goes _ _ _ _ a.before.c_in_range.ensures a.if-c_in_range.true
+    (goes _ _ _ _ b.before.p_in_range.ensures b.if-p_in_range.true (stops _ _ _ c.before.d_in_range.ensures c.if-d_in_range.false))
 
-returns_3 : tie.Need-returns-3
+returns_3 : tie.Need-returns-else-p_in_range
 returns_3 c =
     let a = c.before.before in
-    goes _ _ _ _ a.before.c_in_range.ensures a.if1.true (stops _ _ _ c.before.p_in_range.ensures c.if2.false)
+    goes _ _ _ _ a.before.c_in_range.ensures a.if-c_in_range.true (stops _ _ _ c.before.p_in_range.ensures c.if-p_in_range.false)
 
-returns_4 : tie.Need-returns-4
-returns_4 c = stops _ _ _ c.before.c_in_range.ensures c.if1.false
+returns_4 : tie.Need-returns-else-c_in_range
+returns_4 c = stops _ _ _ c.before.c_in_range.ensures c.if-c_in_range.false
 
 pub passes_spec : {M : Type 1} → statement M
 passes_spec =

@@ -6,34 +6,34 @@ use Rattle.kinds.proofs.Laws.{stops, goes}
 use Rattle.kinds.proofs.Link.passes.Statement.{statement}
 use Rattle.kinds.proofs.Link.passes.Tie as tie
 
-returns : tie.Need-returns
+returns : tie.Need-returns-then-buffer-ge-LEAST_BUFFER
 returns c =
-    goes _ _ _ _ refl (le-leb _ _ c.before.before.before.before.if1.true) (goes _ _ _ _ refl (le-leb _ _
-    c.before.before.before.if2.true) (goes _ _ _ _ refl (ap not (ne_eqb _ _ c.before.before.if3.true))
-    (goes _ _ _ _ refl (le-leb _ _ c.before.if4.true) (goes _ _ _ _ refl (le-leb _ _ c.if5.true) (refl)))))
+    goes _ _ _ _ refl (le-leb _ _ c.before.before.before.before.if-from-le-MOST_NODE.true) (goes _ _ _ _ refl (le-leb _ _
+    c.before.before.before.if-to-le-MOST_NODE.true) (goes _ _ _ _ refl (ap not (ne_eqb _ _ c.before.before.if-from-to.true))
+    (goes _ _ _ _ refl (le-leb _ _ c.before.if-horizon-le-MOST_HORIZON.true) (goes _ _ _ _ refl (le-leb _ _ c.if-buffer-ge-LEAST_BUFFER.true) (refl)))))
 
-returns_2 : tie.Need-returns-2
+returns_2 : tie.Need-returns-else-buffer-ge-LEAST_BUFFER
 returns_2 c =
-    goes _ _ _ _ refl (le-leb _ _ c.before.before.before.before.if1.true) (goes _ _ _ _ refl (le-leb _ _
-    c.before.before.before.if2.true) (goes _ _ _ _ refl (ap not (ne_eqb _ _ c.before.before.if3.true))
-    (goes _ _ _ _ refl (le-leb _ _ c.before.if4.true) (stops _ _ _ refl (lt-leb _ _ c.if5.false)))))
+    goes _ _ _ _ refl (le-leb _ _ c.before.before.before.before.if-from-le-MOST_NODE.true) (goes _ _ _ _ refl (le-leb _ _
+    c.before.before.before.if-to-le-MOST_NODE.true) (goes _ _ _ _ refl (ap not (ne_eqb _ _ c.before.before.if-from-to.true))
+    (goes _ _ _ _ refl (le-leb _ _ c.before.if-horizon-le-MOST_HORIZON.true) (stops _ _ _ refl (lt-leb _ _ c.if-buffer-ge-LEAST_BUFFER.false)))))
 
-returns_3 : tie.Need-returns-3
+returns_3 : tie.Need-returns-else-horizon-le-MOST_HORIZON
 returns_3 c =
-    goes _ _ _ _ refl (le-leb _ _ c.before.before.before.if1.true) (goes _ _ _ _ refl
-    (le-leb _ _ c.before.before.if2.true)
-    (goes _ _ _ _ refl (ap not (ne_eqb _ _ c.before.if3.true)) (stops _ _ _ refl (lt-leb _ _ c.if4.false))))
+    goes _ _ _ _ refl (le-leb _ _ c.before.before.before.if-from-le-MOST_NODE.true) (goes _ _ _ _ refl
+    (le-leb _ _ c.before.before.if-to-le-MOST_NODE.true)
+    (goes _ _ _ _ refl (ap not (ne_eqb _ _ c.before.if-from-to.true)) (stops _ _ _ refl (lt-leb _ _ c.if-horizon-le-MOST_HORIZON.false))))
 
-returns_4 : tie.Need-returns-4
+returns_4 : tie.Need-returns-else-from-to
 returns_4 c =
-    goes _ _ _ _ refl (le-leb _ _ c.before.before.if1.true)
-    (goes _ _ _ _ refl (le-leb _ _ c.before.if2.true) (stops _ _ _ refl (ap not (eq-eqb _ _ c.if3.false))))
+    goes _ _ _ _ refl (le-leb _ _ c.before.before.if-from-le-MOST_NODE.true)
+    (goes _ _ _ _ refl (le-leb _ _ c.before.if-to-le-MOST_NODE.true) (stops _ _ _ refl (ap not (eq-eqb _ _ c.if-from-to.false))))
 
-returns_5 : tie.Need-returns-5
-returns_5 c = goes _ _ _ _ refl (le-leb _ _ c.before.if1.true) (stops _ _ _ refl (lt-leb _ _ c.if2.false))
+returns_5 : tie.Need-returns-else-to-le-MOST_NODE
+returns_5 c = goes _ _ _ _ refl (le-leb _ _ c.before.if-from-le-MOST_NODE.true) (stops _ _ _ refl (lt-leb _ _ c.if-to-le-MOST_NODE.false))
 
-returns_6 : tie.Need-returns-6
-returns_6 c = stops _ _ _ refl (lt-leb _ _ c.if1.false)
+returns_6 : tie.Need-returns-else-from-le-MOST_NODE
+returns_6 c = stops _ _ _ refl (lt-leb _ _ c.if-from-le-MOST_NODE.false)
 
 pub passes_spec : {M : Type 1} → statement M
 passes_spec = tie.close (tie.spec returns returns_2 returns_3 returns_4 returns_5 returns_6)
