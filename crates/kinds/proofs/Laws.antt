@@ -4,7 +4,7 @@ use mathlib.Core.Path.{◌≡◌, refl, sym, ◌∙◌}
 use mathlib.Core.Bool.{Bool, true, false, ◌&&◌, not, and-eq-true_iff}
 use native.Mathlib.Omega.{arith}
 use lib.Dec.{leb, eqb}
-use borrow.Author.Tests.{le-leb, leb-true, eqb-false, ne_eqb, not-true, not-false}
+use borrow.Author.Tests.{le-leb, leb-true, eqb-false, ne_eqb, not-true}
 use Rattle.kinds.specs.Ranges.{within, most_node, most_horizon, most_buffer, most_c, most_p, most_d, most_b, in_range_node}
 use Rattle.kinds.specs.Ranges.{in_range_horizon, in_range_c, in_range_p, in_range_d, in_range_hops}
 use Rattle.kinds.specs.Checks.{link_passes, channel_passes, new_link, new_channel, new_route}
@@ -45,16 +45,16 @@ goes r a b s e t f =
 
 -- `if !x { return false; }`, where x is the test a.
 module _ {x a : Bool} (e : x ≡ a) where
-  pub refuted : not x ≡ true → a ≡ false
-  refuted h = sym e ∙ not-true x h
+  pub refuted : x ≡ false → a ≡ false
+  refuted h = sym e ∙ h
 
-  pub held : not x ≡ false → a ≡ true
-  held h = sym e ∙ not-false x h
+  pub held : x ≡ true → a ≡ true
+  held h = sym e ∙ h
 
-  pub fails : (b : Bool) → not x ≡ true → false ≡ (a && b)
+  pub fails : (b : Bool) → x ≡ false → false ≡ (a && b)
   fails b h = rw (refuted h)
 
-  pub passes : {b s : Bool} → not x ≡ false → s ≡ b → s ≡ (a && b)
+  pub passes : {b s : Bool} → x ≡ true → s ≡ b → s ≡ (a && b)
   passes h g = rw (held h) g
 
 -- "its links pass 16", as bounds

@@ -120,7 +120,7 @@ module _ {w : Store} {all : Accepted} (s : Seen w all) where
     where
       go : Dec (l < links_of w) → Picks (plan_of w) (traffic_of w all) (clock_of w) (sent_of (moved w)) l
       go (yes h) = picks_there l h
-      go (no h) = rests (λ i m held now. Memᴰ.not_nil (rw (no_keys w l (omega (arith, h))) at m))
+      go (no h) = rests (λ i m held now. Memᴰ.not-nil (rw (no_keys w l (omega (arith, h))) at m))
 
   pub step : Step (plan_of w) (traffic_of w all) (clock_of w) (sent_of (moved w))
   step = record { steps = steps; picks = picks }

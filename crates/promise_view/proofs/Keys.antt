@@ -30,7 +30,7 @@ keys_same w w' l (suc n) h = rw (keys_same w w' l n (λ k i. h k (omega arith)),
 -- each of the keys is that of a row, and each row's is one
 pub key_row : (w : Store) (l n : ℕ) (k : Key) → k ∈ keys_to w l n → (i : ℕ) × (i < n) × (k ≡ key_of w l i)
 unfolding keys_to
-key_row w l zero k m = absurd (Memᴰ.not_nil m)
+key_row w l zero k m = absurd (Memᴰ.not-nil m)
 key_row w l (suc n) k m = go (key_row w l n k) (Memᴰ.append_cases (keys_to w l n) m)
   where
     go : (k ∈ keys_to w l n → (i : ℕ) × (i < n) × (k ≡ key_of w l i)) → (k ∈ keys_to w l n) ⊎ (k ∈ (key_of w l n ∷ []))

@@ -39,7 +39,7 @@ module _ {w : Store} (s : Sound w) where
           let x : _ = key_row w l (rows_of w l) k (rw (keys_are w l h) at m) in
           let r : _ = (s.rows l h).rows x.0 x.1 in
           rw x.2 (is_inside w (key_of w l x.0) r.channel r.place)
-      go (no h) = absurd (Memᴰ.not_nil (rw (no_keys w l (omega (arith, h))) at m))
+      go (no h) = absurd (Memᴰ.not-nil (rw (no_keys w l (omega (arith, h))) at m))
 
   pub planned : ((l : ℕ) → l < links_of w → Table (table_of w l)) → Planned (plan_of w)
   planned t = record { tables = tables w t; routed = routed; placed = placed }

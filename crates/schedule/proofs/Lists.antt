@@ -75,5 +75,6 @@ module _ {A : Type 0} where
 
     -- what holds of every image holds of the image of each
     pub every_map : {B : Type 0} (f : B → A) (xs : List B) → Every P (map f xs) → (x : B) → x ∈ xs → P (f x)
+    every_map f [] e x within = elim within [ ]
     every_map f (y ∷ ys) e x (Memᴰ.head same) = rw same e.0
     every_map f (y ∷ ys) e x (Memᴰ.tail m) = every_map f ys e.1 x m

@@ -38,6 +38,7 @@ module _ (p off e sent : ℕ) (m : Message) (ms : List Message) where
 
 -- no message before e
 orderly_from : (c p e base : ℕ) (ms : List Message) → Orderly c p e base ms → (m : Message) → m ∈ ms → e ≤ m.time
+orderly_from c p e base [] o m within = elim within [ ]
 orderly_from c p e base (n ∷ ms) o m (Memᴰ.head same) = omega (arith, o.0.later, ap (λ (k : Message). k.time) same)
 orderly_from c p e base (n ∷ ms) o m (Memᴰ.tail i) =
     omega (arith, o.0.later, orderly_from c p (n.time + p) n.end ms o.1 m i)
@@ -55,6 +56,7 @@ ended_most c p e base (n ∷ ms) o = omega (arith, o.0.some, ended_most c p (n.t
 
 pub ended_in : (c p e base : ℕ) (ms : List Message) → Orderly c p e base ms → (m : Message) → m ∈ ms → m.end ≤ ended base ms
 unfolding ended
+ended_in c p e base [] o m within = elim within [ ]
 ended_in c p e base (n ∷ ms) o m (Memᴰ.head same) =
     omega (arith, ap (λ (k : Message). k.end) same, ended_most c p (n.time + p) n.end ms o.1)
 ended_in c p e base (n ∷ ms) o m (Memᴰ.tail i) = ended_in c p (n.time + p) n.end ms o.1 m i
@@ -137,6 +139,7 @@ module _ (x : Row) (off : ℕ) where
   -- where the head is on time, a message whose deadline is past is wholly sent
   pub all_sent_lem : (t e base sent : ℕ) (ms : List Message) → Orderly x.c x.p e base ms
       → OnTime t x (head_at x.p off e sent ms) → (m : Message) → m ∈ ms → m.time + off + x.delay ≤ t → m.end ≤ sent
+  all_sent_lem t e base sent [] o on m within past = elim within [ ]
   all_sent_lem t e base sent (n ∷ ms) o on m i past = head_cases x.p off e sent n ms (λ g. OnTime t x g → m.end ≤ sent)
       (λ h now. omega (arith, first_least x.c x.p e base n ms o m i))
       (λ h later. go h (all_sent_lem t (n.time + x.p) n.end sent ms o.1 later m) (Memᴰ.cases_cons i)) on

@@ -24,8 +24,8 @@ use Rattle.schedule.proofs.Channel.{course_offered}
 -- J holds where there are no rows yet
 pub set_up : (plan : Plan) (s : Traffic) (t : ℕ) → ((l : ℕ) → plan.rows l ≡ []) → OnLinks plan s t
 set_up plan s t empty l =
-    rw (empty l) (fresh (row plan) [] (λ k m. absurd (Memᴰ.not_nil m)) (head plan s) t
-    (λ k m. absurd (Memᴰ.not_nil m)) (λ k m. absurd (Memᴰ.not_nil m)))
+    rw (empty l) (fresh (row plan) [] (λ k m. absurd (Memᴰ.not-nil m)) (head plan s) t
+    (λ k m. absurd (Memᴰ.not-nil m)) (λ k m. absurd (Memᴰ.not-nil m)))
 
 module _ (plan : Plan) (ok : Planned plan) (s : Traffic) (counted : AllCounted plan s) (t : ℕ) (on : OnLinks plan s t) where
   apart : (l : ℕ) (k : Key) → k ∈ plan.rows l → Apart (row plan k)

@@ -17,6 +17,7 @@ module _ {A : Type 0} where
   pub total_lt : (f g : A → ℕ) (xs : List A) → ((x : A) → x ∈ xs → f x ≤ g x) → (x : A) → x ∈ xs → f x < g x
       → total f xs < total g xs
   unfolding total
+  total_lt f g [] h x within l = elim within [ ]
   total_lt f g (y ∷ ys) h x (Memᴰ.head e) l =
       omega (arith, ap f e, ap g e, total_le f g ys (λ z m. h z (Memᴰ.tail m)))
   total_lt f g (y ∷ ys) h x (Memᴰ.tail m) l =
@@ -24,6 +25,7 @@ module _ {A : Type 0} where
 
   pub total_in : (f : A → ℕ) (xs : List A) (x : A) → x ∈ xs → f x ≤ total f xs
   unfolding total
+  total_in f [] x within = elim within [ ]
   total_in f (y ∷ ys) x (Memᴰ.head e) = omega (arith, ap f e)
   total_in f (y ∷ ys) x (Memᴰ.tail m) = omega (arith, total_in f ys x m)
 

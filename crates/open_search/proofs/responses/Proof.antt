@@ -3,7 +3,6 @@
 use Prim.Native.Nat.{ℕ, ◌+◌, ◌-◌, ◌*◌, ◌<◌, ◌≤◌}
 use mathlib.Core.Path.{◌≡◌, refl, ap, sym, ◌∙◌}
 use mathlib.Core.Bool.{Bool}
-use mathlib.Core.Logic.{⊎_elim}
 use native.Mathlib.Omega.{arith}
 use borrow.Author.Rules.{rules}
 use lib.ListN.{length}
@@ -21,19 +20,20 @@ use Rattle.open_search.proofs.Steps.{new_answer, Searching, searching_none, sear
 use Rattle.open_search.proofs.Steps.{searching_first, searching_end, Placing}
 use Rattle.open_search.proofs.responses.Statement.{statement}
 use Rattle.open_search.proofs.responses.Tie as tie
+use Rattle.open_search.proofs.responses.Lts.{then-q-gt0+in_default, else-q-gt0}
 
-abbrev invariant_loop : tie.invariant_loop
+abbrev invariant_loop : tie.invariant-loop-q
 invariant_loop store asked route found₀ table place₀ j l q₀ found place q =
     Placing store asked.c asked.p route found table place j l q
 
-abbrev decreases_loop : tie.decreases_loop
+abbrev decreases_loop : tie.decreases-loop-q
 decreases_loop store asked route found₀ table place₀ j l q₀ found place q = q
 
-abbrev invariant_search : tie.invariant_search
+abbrev invariant_search : tie.invariant-search
 invariant_search store asked route found₀ table₀ place₀ j₀ found table place j =
     Searching store asked.c asked.p route found table place j
 
-abbrev decreases_search : tie.decreases_search
+abbrev decreases_search : tie.decreases-search
 decreases_search store asked route found₀ table₀ place₀ j₀ found table place j = length route - j
 
 -- Places of the code: a turn of the loop over the route, when its table is made, when a row is looked at, when there is an
@@ -45,289 +45,220 @@ abbrev Turning : Type 0
 Turning = tie.In-search invariant_loop decreases_loop invariant_search decreases_search
 
 abbrev Tabled : Type 0
-Tabled = tie.After-rows invariant_loop decreases_loop invariant_search decreases_search
+Tabled = tie.After-rows-q invariant_loop decreases_loop invariant_search decreases_search
 
 abbrev AtRow : Type 0
-AtRow = tie.At-loop invariant_loop decreases_loop invariant_search decreases_search
+AtRow = tie.At-loop-q invariant_loop decreases_loop invariant_search decreases_search
 
 abbrev OldAnswered : Type 0
-OldAnswered = tie.After-response-under invariant_loop decreases_loop invariant_search decreases_search
+OldAnswered = tie.After-response_under invariant_loop decreases_loop invariant_search decreases_search
 
 abbrev Placed : Type 0
-Placed = tie.Joined1 invariant_loop decreases_loop invariant_search decreases_search
+Placed = tie.Joined-q-gt0 invariant_loop decreases_loop invariant_search decreases_search
 
 abbrev NewAnswered : Type 0
-NewAnswered = tie.After-response-under2 invariant_loop decreases_loop invariant_search decreases_search
-
--- and the way back
-abbrev start : Turning → Start
-start t = t.before.before.before.before
-
-abbrev turning : Tabled → Turning
-turning r = r.before.before.before.before
-
-abbrev tabled : NewAnswered → Tabled
-tabled a = a.before.before.before.before.before
+NewAnswered = tie.After-response_under-in-loop-q invariant_loop decreases_loop invariant_search decreases_search
 
 -- a turn's link, the test of an old row on it, and the answer for the new channel
 abbrev link : Turning → ℕ
-link t = number_at (start t).args.route.now t.before.search.j
+link t = number_at t.args.route.now t.search.j
 
 abbrev tried : Turning → ℕ → Bool
-tried t = has_response (start t).args.store.now (start t).args.asked.c (start t).args.asked.p (link t)
+tried t = has_response t.args.store.now t.args.asked.c t.args.asked.p (link t)
 
 abbrev answer : Turning → Answer
-answer t = new_response (start t).args.store.now (start t).args.asked.c (start t).args.asked.p (link t)
+answer t = new_response t.args.store.now t.args.asked.c t.args.asked.p (link t)
 
 sound : (s : Start) → Sound s.args.store.now
 sound s = sound_is _ s.requires.0
 
-there : (t : Turning) → link t < links_of (start t).args.store.now
+there : (t : Turning) → link t < links_of t.args.store.now
 there t =
-    let s = start t in
-    link_there s.args.store.now s.args.route.now _ s.pre.1.1.1.1.0 _ t.search_test.taken
+    link_there t.args.store.now t.args.route.now _ t.requires.1.1.1.1.0 _ t.search-test.true
 
-short : (t : Turning) → t.before.search.j < most_hops
-short t = omega (arith, t.search_test.taken, (start t).pre.1.1.1.0)
+short : (t : Turning) → t.search.j < most_hops
+short t = omega (arith, t.search-test.true, t.requires.1.1.1.0)
 
 turn : (r : Tabled)
-    → Turn (start (turning r)).args.store.now (start (turning r)).args.asked.c (start (turning r)).args.asked.p
-    (link (turning r)) r.before.put_rows.last.1.1.0
+    → Turn r.args.store.now r.args.asked.c r.args.asked.p
+    (link r.before.before.before.before) r.put_rows.new.table
 turn r =
-    let t = turning r in
-    let s = start t in
-    let rows = rows_most _ (sound s) _ (there t) in
+    let rows = rows_most _ (sound r.before.before.before.before.before.before.before.before) _ (there r.before.before.before.before) in
     record {
-      sound = sound s;
-      c_in = s.pre.1.0;
-      p_in = s.pre.1.1.0;
-      link = there t;
-      table = filled s.args.store.now _ _ _ _ _ t.before.search.inv.table rows r.before.put_rows.ensures;
+      sound = sound r.before.before.before.before.before.before.before.before;
+      c_in = r.requires.1.0;
+      p_in = r.requires.1.1.0;
+      link = there r.before.before.before.before;
+      table = filled r.args.store.now _ _ _ _ _ r.search.invariant.table rows r.put_rows.ensures;
     }
 
-small : (b : AtRow) → b.loop.q ≤ most_rows
-small b = omega (arith, b.loop.inv.falling.place, few _ _ _ _ _ (turn b.before))
+small : (b : AtRow) → b.loop-q.q ≤ most_rows
+small b = omega (arith, b.loop-q.invariant.falling.place, few _ _ _ _ _ (turn b.before))
 
-inside : (b : AtRow) → 3 * b.loop.q + 3 ≤ length b.before.before.put_rows.last.1.1.0
+inside : (b : AtRow) → 3 * b.loop-q.q + 3 ≤ length b.put_rows.new.table
 inside b = omega (arith, small b, (turn b.before).table.headed.size)
 
 -- what the calculation answers for an old row
 old : (a : OldAnswered) (b : Answer) → a.response_under.result ≡ b
-    → tried (turning a.before.before.before.before) (a.before.before.before.loop.q - 1) ≡ is_found b
+    → tried a.before.before.before.before.before.before.before.before (a.loop-q.q - 1) ≡ is_found b
 old a b e =
-    let t = a.before.before in
-    let f = old_answer _ _ _ _ _ (turn t.before.before) _ t.if1.taken t.before.loop.inv.falling.place _ in
+    let f = old_answer _ _ _ _ _ (turn a.before.before.before.before) _ a.if-q-gt0.true a.loop-q.invariant.falling.place _ in
     ap is_found (sym (f a.response_under.ensures) ∙ e)
 
 -- where no row is left, or the last one left has no response, the position is found
 found : (x : Placed)
-    → x.before.loop.q
-    ≡ smallest (tried (turning x.before.before))
-    (rows_of (start (turning x.before.before)).args.store.now (link (turning x.before.before)))
+    → x.loop-q.q
+    ≡ smallest (tried x.before.before.before.before.before.before)
+    (rows_of x.args.store.now (link x.before.before.before.before.before.before))
 found x =
-    let g = x.before.loop.inv.falling in
-    ⊎_elim
-    (λ e.
-    let row : tie.Then1 invariant_loop decreases_loop invariant_search decreases_search = record { before = x.before; if1 = e.0 } in
-    let a : OldAnswered = record { before = record { before = row; table2 = e.1 }; response_under = e.2 } in
-    falling_stop _ _ _ g e.0.taken (old a _ e.4.given.1))
-    (λ e. falling_end _ _ _ g e.left) x.if1.came
+    let g = x.loop-q.invariant.falling in
+    elim x.if-q-gt0.branch [
+      | then-q-gt0+in_default w ↦
+          let row : tie.Then-q-gt0 invariant_loop decreases_loop invariant_search decreases_search = record { before = x.before; if-q-gt0 = w.if-q-gt0 } in
+          let a : OldAnswered = record { before = record { before = row; table-then-q-gt0-1 = w.table-then-q-gt0-1 }; response_under = w.response_under } in
+          falling_stop _ _ _ g w.if-q-gt0.true (old a _ w.in_default.is)
+      | else-q-gt0 w ↦ falling_end _ _ _ g w.if-q-gt0.false
+    ]
 
 -- and what it answers for the new channel
-new : (a : NewAnswered) → a.response_under2.result ≡ answer (turning (tabled a))
+new : (a : NewAnswered) → a.response_under-in-loop-q.result ≡ answer a.before.before.before.before.before.before.before.before
 new a =
-    let x = a.before.before.before in
-    new_answer _ _ _ _ _ (turn (tabled a)) _ x.before.loop.inv.falling.place (found x) _ a.response_under2.ensures
+    new_answer _ _ _ _ _ (turn a.before.before.before.before) _ a.loop-q.invariant.falling.place (found a.before.before) _ a.response_under-in-loop-q.ensures
 
-array_write_table : tie.Need-array-write-table invariant_loop decreases_loop invariant_search decreases_search
+array_write_table : tie.Need-bounds-table-0 invariant_loop decreases_loop invariant_search decreases_search
 array_write_table c = search rules
 
-array_write_table_2 : tie.Need-array-write-table-2 invariant_loop decreases_loop invariant_search decreases_search
+array_write_table_2 : tie.Need-bounds-table-1 invariant_loop decreases_loop invariant_search decreases_search
 array_write_table_2 c = search rules
 
 search_holds : tie.Need-search-init invariant_loop decreases_loop invariant_search decreases_search
-search_holds c = searching_none _ _ _ _ _ _ c.before.before.requires.1.1.1.1.1 (record { size = refl; new = refl })
+search_holds c = searching_none _ _ _ _ _ _ c.requires.1.1.1.1.1 (record { size = refl; new = refl })
 
-mul_l : tie.Need-overflow-mul-l invariant_loop decreases_loop invariant_search decreases_search
-mul_l c = omega (arith, (start c).requires.1.1.1.0)
+mul_l : tie.Need-offset_bounds-route-j invariant_loop decreases_loop invariant_search decreases_search
+mul_l c = omega (arith, c.requires.1.1.1.0)
 
-shared_slice_read_l : tie.Need-shared-slice-read-l invariant_loop decreases_loop invariant_search decreases_search
+shared_slice_read_l : tie.Need-bounds-route-j invariant_loop decreases_loop invariant_search decreases_search
 shared_slice_read_l c = omega arith
 
-put_rows_requires : tie.Need-put-rows-requires invariant_loop decreases_loop invariant_search decreases_search
-put_rows_requires c κs = ((start c.before.before).requires.0, there c.before.before)
+put_rows_requires : tie.Need-put_rows-requires invariant_loop decreases_loop invariant_search decreases_search
+put_rows_requires c κs = (c.requires.0, there c.before.before)
 
-rows_requires : tie.Need-rows-requires invariant_loop decreases_loop invariant_search decreases_search
+rows_requires : tie.Need-rows-q-requires invariant_loop decreases_loop invariant_search decreases_search
 rows_requires c κs =
-    let t = c.before.before.before in
-    ((sound (start t)).long, link_most _ (sound (start t)) _ (there t))
+    ((sound c.before.before.before.before.before.before.before).long, link_most _ (sound c.before.before.before.before.before.before.before) _ (there c.before.before.before))
 
-loop_holds : tie.Need-loop-init invariant_loop decreases_loop invariant_search decreases_search
+loop_holds : tie.Need-loop-q-init invariant_loop decreases_loop invariant_search decreases_search
 loop_holds c = record {
-  searching = searching_table _ _ _ _ (turning c).before.search.invariant (turn c).table.headed;
-  falling = falling_none _ _ _ c.rows.ensures;
+  searching = searching_table _ _ _ _ c.search.invariant (turn c).table.headed;
+  falling = falling_none _ _ _ c.rows-q.ensures;
 }
 
-mul_own : tie.Need-overflow-mul-own invariant_loop decreases_loop invariant_search decreases_search
+mul_own : tie.Need-overflow_mul-own invariant_loop decreases_loop invariant_search decreases_search
 mul_own c = omega (arith, small c.before)
 
-mul_own_2 : tie.Need-overflow-mul-own-2 invariant_loop decreases_loop invariant_search decreases_search
+mul_own_2 : tie.Need-offset_bounds-table-q invariant_loop decreases_loop invariant_search decreases_search
 mul_own_2 c = omega (arith, small c.before)
 
-array_read_own : tie.Need-array-read-own invariant_loop decreases_loop invariant_search decreases_search
+array_read_own : tie.Need-bounds-table-q invariant_loop decreases_loop invariant_search decreases_search
 array_read_own c = omega (arith, small c.before)
 
-mul_delay : tie.Need-overflow-mul-delay invariant_loop decreases_loop invariant_search decreases_search
+mul_delay : tie.Need-overflow_mul-delay invariant_loop decreases_loop invariant_search decreases_search
 mul_delay c = omega (arith, small c.before)
 
-add_delay : tie.Need-overflow-add-delay invariant_loop decreases_loop invariant_search decreases_search
+add_delay : tie.Need-overflow_add-delay invariant_loop decreases_loop invariant_search decreases_search
 add_delay c = omega (arith, small c.before)
 
-mul_delay_2 : tie.Need-overflow-mul-delay-2 invariant_loop decreases_loop invariant_search decreases_search
+mul_delay_2 : tie.Need-offset_bounds-table-q-then-q-gt0 invariant_loop decreases_loop invariant_search decreases_search
 mul_delay_2 c = omega (arith, small c.before)
 
-array_read_delay : tie.Need-array-read-delay invariant_loop decreases_loop invariant_search decreases_search
+array_read_delay : tie.Need-bounds-table-q-then-q-gt0 invariant_loop decreases_loop invariant_search decreases_search
 array_read_delay c = omega (arith, small c.before)
 
-mul_table : tie.Need-overflow-mul-table invariant_loop decreases_loop invariant_search decreases_search
+mul_table : tie.Need-overflow_mul-table invariant_loop decreases_loop invariant_search decreases_search
 mul_table c = omega (arith, small c.before)
 
-array_share_prefix_table : tie.Need-array-share-prefix-table invariant_loop decreases_loop invariant_search decreases_search
+array_share_prefix_table : tie.Need-slice_bounds-table-end invariant_loop decreases_loop invariant_search decreases_search
 array_share_prefix_table c = omega (arith, inside c.before)
 
-slice_aggregate_response_under :
-    tie.Need-slice-aggregate-response-under invariant_loop decreases_loop invariant_search decreases_search
+slice_aggregate_response_under : tie.Need-slice_bounds-response_under-end invariant_loop decreases_loop invariant_search decreases_search
 slice_aggregate_response_under c = sym (length-take-le _ _ (array_share_prefix_table c.before))
 
-response_under_requires : tie.Need-response-under-requires invariant_loop decreases_loop invariant_search decreases_search
+response_under_requires : tie.Need-response_under-requires invariant_loop decreases_loop invariant_search decreases_search
 response_under_requires c κs =
-    let t = c.before in
-    let g = turn t.before.before in
-    let place = t.before.loop.invariant.falling.place in
-    (old_workable _ _ _ _ _ g _ t.if1.true place, old_limit _ _ _ _ _ g _ t.if1.true place)
+    let g = turn c.before.before.before in
+    let place = c.loop-q.invariant.falling.place in
+    (old_workable _ _ _ _ _ g _ c.if-q-gt0.true place, old_limit _ _ _ _ _ g _ c.if-q-gt0.true place)
 
-enum_told : tie.Need-enum-told invariant_loop decreases_loop invariant_search decreases_search
+enum_told : tie.Need-enum_told-1 invariant_loop decreases_loop invariant_search decreases_search
 enum_told c = search rules
 
-sub_q : tie.Need-overflow-sub-q invariant_loop decreases_loop invariant_search decreases_search
+sub_q : tie.Need-overflow_sub-q invariant_loop decreases_loop invariant_search decreases_search
 sub_q c = omega arith
 
-loop_less : tie.Need-loop-smaller invariant_loop decreases_loop invariant_search decreases_search
+loop_less : tie.Need-loop-q-smaller invariant_loop decreases_loop invariant_search decreases_search
 loop_less c = omega arith
 
-loop_again : tie.Need-loop-preserved invariant_loop decreases_loop invariant_search decreases_search
+loop_again : tie.Need-loop-q-preserved invariant_loop decreases_loop invariant_search decreases_search
 loop_again c =
-    let a = c.before.before in
-    let t = a.before.before in
-    let i = t.before.loop.invariant in
+    let i = c.loop-q.invariant in
     record {
       searching = i.searching;
-      falling = falling_more _ _ _ i.falling t.if1.true (old a _ c.enum_told.given.1);
+      falling = falling_more _ _ _ i.falling c.if-q-gt0.true (old c.before _ c.in-Found.is);
     }
 
-enum_told_2 : tie.Need-enum-told-2 invariant_loop decreases_loop invariant_search decreases_search
+enum_told_2 : tie.Need-enum_told-in_default invariant_loop decreases_loop invariant_search decreases_search
 enum_told_2 c = search rules
 
-mul_response_under : tie.Need-overflow-mul-response-under invariant_loop decreases_loop invariant_search decreases_search
+mul_response_under : tie.Need-overflow_mul-q invariant_loop decreases_loop invariant_search decreases_search
 mul_response_under c = omega (arith, small c.before)
 
-add_response_under : tie.Need-overflow-add-response-under invariant_loop decreases_loop invariant_search decreases_search
+add_response_under : tie.Need-overflow_add-q invariant_loop decreases_loop invariant_search decreases_search
 add_response_under c = omega (arith, small c.before)
 
-sub_response_under : tie.Need-overflow-sub-response-under invariant_loop decreases_loop invariant_search decreases_search
+sub_response_under : tie.Need-slice_bounds-response_under-count invariant_loop decreases_loop invariant_search decreases_search
 sub_response_under c = omega arith
 
-part_response_under_start : tie.Need-slice-bounds-response-under-start invariant_loop decreases_loop invariant_search decreases_search
+part_response_under_start : tie.Need-slice_bounds-response_under-start invariant_loop decreases_loop invariant_search decreases_search
 part_response_under_start c = search rules
 
-part_response_under_end : tie.Need-slice-bounds-response-under-end invariant_loop decreases_loop invariant_search decreases_search
-part_response_under_end c = inside c.before.before
+part_response_under_end : tie.Need-slice_bounds-response_under-end-in-loop-q invariant_loop decreases_loop invariant_search decreases_search
+part_response_under_end c = inside c.before
 
-response_under_requires_2 : tie.Need-response-under-requires-2 invariant_loop decreases_loop invariant_search decreases_search
+response_under_requires_2 : tie.Need-response_under-requires-in-loop-q invariant_loop decreases_loop invariant_search decreases_search
 response_under_requires_2 c κs =
-    let b = c.before.before.before in
-    let g = turn b.before in
-    (new_workable _ _ _ _ _ g _ b.loop.invariant.falling.place, omega (arith, new_limit _ _ _ _ _ g))
+    let g = turn c.before.before.before in
+    (new_workable _ _ _ _ _ g _ c.loop-q.invariant.falling.place, omega (arith, new_limit _ _ _ _ _ g))
 
-enum_known_r : tie.Need-enum-known-r invariant_loop decreases_loop invariant_search decreases_search
+enum_known_r : tie.Need-enum_known-r invariant_loop decreases_loop invariant_search decreases_search
 enum_known_r c = search rules
 
-enum_told_3 : tie.Need-enum-told-3 invariant_loop decreases_loop invariant_search decreases_search
+enum_told_3 : tie.Need-enum_told-in_default-response_under invariant_loop decreases_loop invariant_search decreases_search
 enum_told_3 c = search rules
 
-mul_found : tie.Need-overflow-mul-found invariant_loop decreases_loop invariant_search decreases_search
-mul_found c = omega (arith, short (turning (tabled c.before.before.before)))
+mul_found : tie.Need-offset_bounds-found-j invariant_loop decreases_loop invariant_search decreases_search
+mul_found c = omega (arith, short c.before.before.before.before.before.before.before.before.before)
 
-element_write_found : tie.Need-element-write-found invariant_loop decreases_loop invariant_search decreases_search
-element_write_found c = omega (arith, short (turning (tabled c.before.before.before)))
+element_write_found : tie.Need-bounds-found-j invariant_loop decreases_loop invariant_search decreases_search
+element_write_found c = omega (arith, short c.before.before.before.before.before.before.before.before.before.before)
 
-add_j : tie.Need-overflow-add-j invariant_loop decreases_loop invariant_search decreases_search
-add_j c = omega (arith, short (turning (tabled c.before.before.before)))
+add_j : tie.Need-overflow_add-j invariant_loop decreases_loop invariant_search decreases_search
+add_j c = omega (arith, short c.before.before.before.before.before.before.before.before.before.before)
 
 search_less : tie.Need-search-smaller invariant_loop decreases_loop invariant_search decreases_search
-search_less c = omega (arith, (turning (tabled c.before.before.before)).search_test.taken)
+search_less c = omega (arith, c.search-test.true)
 
 search_again : tie.Need-search-preserved invariant_loop decreases_loop invariant_search decreases_search
 search_again c =
-    let a = c.before.before.before in
-    let t = turning (tabled a) in
-    let i = a.before.before.before.before.loop.invariant in
-    searching_more _ _ _ _ _ _ _ _ i.searching t.search_test.taken _ (new a) _ _ c.before.r.given.1
+    let i = c.loop-q.invariant in
+    searching_more _ _ _ _ _ _ _ _ i.searching c.search-test.true _ (new c.before.before) _ _ c.in-Found-response_under.is
 
-returns : tie.Need-returns invariant_loop decreases_loop invariant_search decreases_search
-returns c = searching_end _ _ _ _ _ _ _ _ c.before.search.invariant c.search_test.false
+returns : tie.Need-returns-after-search invariant_loop decreases_loop invariant_search decreases_search
+returns c = searching_end _ _ _ _ _ _ _ _ c.search.invariant c.search-test.false
 
-returns_2 : tie.Need-returns-2 invariant_loop decreases_loop invariant_search decreases_search
+returns_2 : tie.Need-returns-in_default-response_under invariant_loop decreases_loop invariant_search decreases_search
 returns_2 c =
-    let a = c.before.before in
-    let t = turning (tabled a) in
-    let i = a.before.before.before.before.loop.invariant in
-    searching_first _ _ _ _ _ _ _ _ i.searching t.search_test.taken _ (new a) _ c.enum_told3.given.1
+    let i = c.loop-q.invariant in
+    searching_first _ _ _ _ _ _ _ _ i.searching c.search-test.true _ (new c.before) _ c.in_default-response_under.is
 
 pub responses_spec : {M : Type 1} → statement M
-responses_spec =
-    tie.close
-    (tie.spec
-    invariant_loop
-    decreases_loop
-    invariant_search
-    decreases_search
-    array_write_table
-    array_write_table_2
-    search_holds
-    mul_l
-    shared_slice_read_l
-    put_rows_requires
-    rows_requires
-    loop_holds
-    mul_own
-    mul_own_2
-    array_read_own
-    mul_delay
-    add_delay
-    mul_delay_2
-    array_read_delay
-    mul_table
-    array_share_prefix_table
-    slice_aggregate_response_under
-    response_under_requires
-    enum_told
-    sub_q
-    loop_less
-    loop_again
-    enum_told_2
-    mul_response_under
-    add_response_under
-    sub_response_under
-    part_response_under_start
-    part_response_under_end
-    response_under_requires_2
-    enum_known_r
-    enum_told_3
-    mul_found
-    element_write_found
-    add_j
-    search_less
-    search_again
-    returns
-    returns_2)
+responses_spec = tie.close (tie.spec invariant_loop decreases_loop invariant_search decreases_search array_write_table array_write_table_2 search_holds mul_l shared_slice_read_l put_rows_requires rows_requires loop_holds mul_own mul_own_2 array_read_own mul_delay add_delay mul_delay_2 array_read_delay mul_table array_share_prefix_table slice_aggregate_response_under response_under_requires enum_told sub_q loop_less loop_again enum_told_2 mul_response_under add_response_under sub_response_under part_response_under_start part_response_under_end response_under_requires_2 enum_known_r enum_told_3 mul_found element_write_found add_j search_less search_again returns returns_2)

@@ -13,86 +13,86 @@ use Rattle.response.proofs.Laws.Numbers.{asked_most}
 use Rattle.response.proofs.need.Statement.{statement}
 use Rattle.response.proofs.need.Tie as tie
 
-abbrev invariant_loop : tie.invariant_loop
+abbrev invariant_loop : tie.invariant-loop-at
 invariant_loop table own r sum₀ at₀ sum at = Adding (λ rows. work rows r) (most_c * most_p) table own sum at
 
-abbrev decreases_loop : tie.decreases_loop
+abbrev decreases_loop : tie.decreases-loop-at
 decreases_loop table own r sum₀ at₀ sum at = length table - at
 
 -- the row that a turn adds, which is in range, and so is what it asks for
-abbrev row : tie.In-loop invariant_loop decreases_loop → Row
-row c = row_at c.before.before.args.table.now c.before.loop.at
+abbrev row : tie.In-loop-at invariant_loop decreases_loop → Row
+row c = row_at c.before.before.args.table.now c.before.loop-at.at
 
-ranged : (c : tie.In-loop invariant_loop decreases_loop) → Bounds (row c)
-ranged c = (rest_ranged _ _ c.loop_test.true c.before.loop.invariant.ranged).0
+ranged : (c : tie.In-loop-at invariant_loop decreases_loop) → Bounds (row c)
+ranged c = (rest_ranged _ _ c.loop-at-test.true c.before.loop-at.invariant.ranged).0
 
-asked : (c : tie.In-loop invariant_loop decreases_loop) → (row c).c * ceil c.before.before.args.r (row c).p ≤ most_c * most_p
+asked : (c : tie.In-loop-at invariant_loop decreases_loop) → (row c).c * ceil c.before.before.args.r (row c).p ≤ most_c * most_p
 asked c = asked_most _ _ (ranged c) c.before.before.requires.1
 
-loop_holds : tie.Need-loop-init invariant_loop decreases_loop
+loop_holds : tie.Need-loop-at-init invariant_loop decreases_loop
 loop_holds c = adding_none _ _ _ _ c.requires.0
 
-add_loop : tie.Need-overflow-add-loop invariant_loop decreases_loop
+add_loop : tie.Need-overflow_add-at invariant_loop decreases_loop
 add_loop c = omega arith
 
-add_p : tie.Need-overflow-add-p invariant_loop decreases_loop
+add_p : tie.Need-overflow_add-p invariant_loop decreases_loop
 add_p c = omega arith
 
-mul_p : tie.Need-overflow-mul-p invariant_loop decreases_loop
+mul_p : tie.Need-offset_bounds-table-at invariant_loop decreases_loop
 mul_p c = search rules
 
-shared_slice_read_p : tie.Need-shared-slice-read-p invariant_loop decreases_loop
+shared_slice_read_p : tie.Need-bounds-table-at invariant_loop decreases_loop
 shared_slice_read_p c = omega arith
 
-add_times : tie.Need-overflow-add-times invariant_loop decreases_loop
+add_times : tie.Need-overflow_add-times invariant_loop decreases_loop
 add_times c = omega (arith, ranged c.before)
 
-sub_times : tie.Need-overflow-sub-times invariant_loop decreases_loop
+sub_times : tie.Need-overflow_sub-times invariant_loop decreases_loop
 sub_times c = omega (arith, ranged c.before)
 
-cast_times : tie.Need-overflow-cast-times invariant_loop decreases_loop
+cast_times : tie.Need-overflow_cast-times invariant_loop decreases_loop
 cast_times c = omega (arith, ranged c.before)
 
-cast_times_2 : tie.Need-overflow-cast-times-2 invariant_loop decreases_loop
+cast_times_2 : tie.Need-overflow_cast-times-in-loop-at invariant_loop decreases_loop
 cast_times_2 c = omega (arith, ranged c.before)
 
-div_times : tie.Need-nonzero-div-times invariant_loop decreases_loop
+div_times : tie.Need-nonzero_div-times invariant_loop decreases_loop
 div_times c = (ranged c.before).p_least
 
-mul_sum : tie.Need-overflow-mul-sum invariant_loop decreases_loop
+mul_sum : tie.Need-offset_bounds-table-at-in-loop-at invariant_loop decreases_loop
 mul_sum c = search rules
 
-shared_slice_read_sum : tie.Need-shared-slice-read-sum invariant_loop decreases_loop
+shared_slice_read_sum : tie.Need-bounds-table-at-in-loop-at invariant_loop decreases_loop
 shared_slice_read_sum c = omega arith
 
-cast_sum : tie.Need-overflow-cast-sum invariant_loop decreases_loop
+cast_sum : tie.Need-overflow_cast-sum invariant_loop decreases_loop
 cast_sum c = record { fits = lt_of_le_of_lt (div-le_self _ _) (omega (arith, ranged c.before.before)) }
 
-mul_sum_2 : tie.Need-overflow-mul-sum-2 invariant_loop decreases_loop
+mul_sum_2 : tie.Need-overflow_mul-sum invariant_loop decreases_loop
 mul_sum_2 c =
     let x = ranged c.before.before in
     record { fits = lt_of_le_of_lt (mul-le-mul x.c_most (div-le_self _ _)) (omega arith) }
 
-add_sum : tie.Need-overflow-add-sum invariant_loop decreases_loop
+add_sum : tie.Need-overflow_add-sum invariant_loop decreases_loop
 add_sum c =
     let x = ranged c.before.before in
     record { fits = lt_of_le_of_lt (add-le-add (le_refl _) (mul-le-mul x.c_most (div-le_self _ _))) (omega arith) }
 
-add_at : tie.Need-overflow-add-at invariant_loop decreases_loop
+add_at : tie.Need-overflow_add-at-in-loop-at invariant_loop decreases_loop
 add_at c = omega arith
 
-loop_less : tie.Need-loop-smaller invariant_loop decreases_loop
+loop_less : tie.Need-loop-at-smaller invariant_loop decreases_loop
 loop_less c = omega arith
 
-loop_again : tie.Need-loop-preserved invariant_loop decreases_loop
+loop_again : tie.Need-loop-at-preserved invariant_loop decreases_loop
 unfolding ceil work
 loop_again c =
     let turn = c.before.before in
-    adding_more _ _ _ _ _ _ _ turn.before.loop.invariant turn.loop_test.true (asked turn) refl
+    adding_more _ _ _ _ _ _ _ turn.before.loop-at.invariant turn.loop-at-test.true (asked turn) refl
 
 returns : tie.Need-returns invariant_loop decreases_loop
 unfolding work need
-returns c = adding_done _ _ _ _ _ _ c.before.loop.invariant c.loop_test.false refl
+returns c = adding_done _ _ _ _ _ _ c.before.loop-at.invariant c.loop-at-test.false refl
 
 pub need_spec : {M : Type 1} → statement M
 need_spec =

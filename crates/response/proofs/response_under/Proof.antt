@@ -11,48 +11,48 @@ use Rattle.response.proofs.Laws.Numbers.{ranged_spaced}
 use Rattle.response.proofs.response_under.Statement.{statement}
 use Rattle.response.proofs.response_under.Tie as tie
 
-abbrev invariant_loop : tie.invariant_loop
+abbrev invariant_loop : tie.invariant-loop-r
 invariant_loop table own limit r₀ trials₀ r trials = Trying (need own (rows_in table)) limit (start own (rows_in table)) r trials
 
-abbrev decreases_loop : tie.decreases_loop
+abbrev decreases_loop : tie.decreases-loop-r
 decreases_loop table own limit r₀ trials₀ r trials = suc limit - r
 
 -- the rows are at least a slot apart, as the function requires
 spaced : (c : tie.Start invariant_loop decreases_loop) → Spaced (rows_in c.args.table.now)
 spaced c = ranged_spaced _ c.requires.0.ranged
 
-start_requires : tie.Need-start-requires invariant_loop decreases_loop
+start_requires : tie.Need-start-r-requires invariant_loop decreases_loop
 start_requires c κs = search rules
 
-loop_holds : tie.Need-loop-init invariant_loop decreases_loop
-loop_holds c = trying_none _ _ _ _ c.start.ensures (start_rises _ _ (spaced c.before.before))
+loop_holds : tie.Need-loop-r-init invariant_loop decreases_loop
+loop_holds c = trying_none _ _ _ _ c.start-r.ensures (start_rises _ _ (spaced c.before.before))
 
-need_requires : tie.Need-need-requires invariant_loop decreases_loop
+need_requires : tie.Need-need-n-requires invariant_loop decreases_loop
 need_requires c κs = (c.before.before.before.before.requires.0, omega arith)
 
-add_trials : tie.Need-overflow-add-trials invariant_loop decreases_loop
+add_trials : tie.Need-overflow_add-trials invariant_loop decreases_loop
 add_trials c = omega arith
 
-returns : tie.Need-returns invariant_loop decreases_loop
+returns : tie.Need-returns-then-n-r invariant_loop decreases_loop
 unfolding response
 returns c =
     let t = c.before.before in
-    trying_equal _ _ _ _ _ _ t.before.loop.invariant t.loop_test.true c.before.need.ensures c.if1.true
+    trying_equal _ _ _ _ _ _ t.before.loop-r.invariant t.loop-r-test.true c.before.need-n.ensures c.if-n-r.true
 
-loop_less : tie.Need-loop-smaller invariant_loop decreases_loop
+loop_less : tie.Need-loop-r-smaller invariant_loop decreases_loop
 loop_less c =
     let t = c.before.before in
-    trying_less _ _ _ _ _ _ t.before.loop.invariant t.loop_test.true c.before.need.ensures c.if1.false
+    trying_less _ _ _ _ _ _ t.before.loop-r.invariant t.loop-r-test.true c.before.need-n.ensures c.if-n-r.false
 
-loop_again : tie.Need-loop-preserved invariant_loop decreases_loop
+loop_again : tie.Need-loop-r-preserved invariant_loop decreases_loop
 loop_again c =
     let t = c.before.before in
-    trying_on _ _ _ (λ a b. need_mono _ _ a b (spaced t.before.before.before.before)) _ _ _ t.before.loop.invariant
-    t.loop_test.true c.before.need.ensures c.if1.false
+    trying_on _ _ _ (λ a b. need_mono _ _ a b (spaced t.before.before.before.before)) _ _ _ t.before.loop-r.invariant
+    t.loop-r-test.true c.before.need-n.ensures c.if-n-r.false
 
-returns_2 : tie.Need-returns-2 invariant_loop decreases_loop
+returns_2 : tie.Need-returns invariant_loop decreases_loop
 unfolding response
-returns_2 c = trying_passed _ _ _ _ _ c.before.loop.invariant c.loop_test.false
+returns_2 c = trying_passed _ _ _ _ _ c.before.loop-r.invariant c.loop-r-test.false
 
 pub response_under_spec : {M : Type 1} → statement M
 response_under_spec =

@@ -9,66 +9,66 @@ use Rattle.response.proofs.Laws.Numbers.{Looking, looking_bad_c, looking_bad_p, 
 use Rattle.response.proofs.rows_in_range.Statement.{statement}
 use Rattle.response.proofs.rows_in_range.Tie as tie
 
-abbrev invariant_loop : tie.invariant_loop
+abbrev invariant_loop : tie.invariant-loop-at
 invariant_loop table at₀ at = Looking table at
 
-abbrev decreases_loop : tie.decreases_loop
+abbrev decreases_loop : tie.decreases-loop-at
 decreases_loop table at₀ at = length table - at
 
-loop_holds : tie.Need-loop-init invariant_loop decreases_loop
+loop_holds : tie.Need-loop-at-init invariant_loop decreases_loop
 loop_holds c = record { place = omega arith; same = refl }
 
-add_loop : tie.Need-overflow-add-loop invariant_loop decreases_loop
+add_loop : tie.Need-overflow_add-at invariant_loop decreases_loop
 add_loop c = omega arith
 
-mul_c_in_range : tie.Need-overflow-mul-c-in-range invariant_loop decreases_loop
+mul_c_in_range : tie.Need-offset_bounds-table-at invariant_loop decreases_loop
 mul_c_in_range c = search rules
 
-shared_slice_read_c_in_range : tie.Need-shared-slice-read-c-in-range invariant_loop decreases_loop
+shared_slice_read_c_in_range : tie.Need-bounds-table-at invariant_loop decreases_loop
 shared_slice_read_c_in_range c = omega arith
 
-c_in_range_requires : tie.Need-c-in-range-requires invariant_loop decreases_loop
+c_in_range_requires : tie.Need-c_in_range-requires invariant_loop decreases_loop
 c_in_range_requires c κs = search rules
 
-returns : tie.Need-returns invariant_loop decreases_loop
+returns : tie.Need-returns-then-not-c_in_range invariant_loop decreases_loop
 returns c =
     let i = c.before.before.before in
-    looking_bad_c _ _ i.before.loop.invariant i.loop_test.true (refuted c.before.c_in_range.ensures c.if1.true)
+    looking_bad_c _ _ i.before.loop-at.invariant i.loop-at-test.true (refuted c.before.c_in_range.ensures c.if-not-c_in_range.true)
 
-add_p_in_range : tie.Need-overflow-add-p-in-range invariant_loop decreases_loop
+add_p_in_range : tie.Need-overflow_add-at-in-loop-at invariant_loop decreases_loop
 add_p_in_range c = omega arith
 
-mul_p_in_range : tie.Need-overflow-mul-p-in-range invariant_loop decreases_loop
+mul_p_in_range : tie.Need-offset_bounds-table-at-in-loop-at invariant_loop decreases_loop
 mul_p_in_range c = search rules
 
-shared_slice_read_p_in_range : tie.Need-shared-slice-read-p-in-range invariant_loop decreases_loop
+shared_slice_read_p_in_range : tie.Need-bounds-table-at-in-loop-at invariant_loop decreases_loop
 shared_slice_read_p_in_range c = omega arith
 
-p_in_range_requires : tie.Need-p-in-range-requires invariant_loop decreases_loop
+p_in_range_requires : tie.Need-p_in_range-requires invariant_loop decreases_loop
 p_in_range_requires c κs = search rules
 
-returns_2 : tie.Need-returns-2 invariant_loop decreases_loop
+returns_2 : tie.Need-returns-then-not-p_in_range invariant_loop decreases_loop
 returns_2 c =
     let e = c.before.before.before in
     let i = e.before.before.before in
-    looking_bad_p _ _ i.before.loop.invariant i.loop_test.true (held e.before.c_in_range.ensures e.if1.false)
-    (refuted c.before.p_in_range.ensures c.if2.true)
+    looking_bad_p _ _ i.before.loop-at.invariant i.loop-at-test.true (held e.before.c_in_range.ensures e.if-not-c_in_range.false)
+    (refuted c.before.p_in_range.ensures c.if-not-p_in_range.true)
 
-add_at : tie.Need-overflow-add-at invariant_loop decreases_loop
+add_at : tie.Need-overflow_add-at-in-loop-at-2 invariant_loop decreases_loop
 add_at c = omega arith
 
-loop_less : tie.Need-loop-smaller invariant_loop decreases_loop
+loop_less : tie.Need-loop-at-smaller invariant_loop decreases_loop
 loop_less c = omega arith
 
-loop_again : tie.Need-loop-preserved invariant_loop decreases_loop
+loop_again : tie.Need-loop-at-preserved invariant_loop decreases_loop
 loop_again c =
     let e = c.before.before.before in
     let i = e.before.before.before in
-    looking_more _ _ i.before.loop.invariant i.loop_test.true (held e.before.c_in_range.ensures e.if1.false)
-    (held c.before.p_in_range.ensures c.if2.false)
+    looking_more _ _ i.before.loop-at.invariant i.loop-at-test.true (held e.before.c_in_range.ensures e.if-not-c_in_range.false)
+    (held c.before.p_in_range.ensures c.if-not-p_in_range.false)
 
-returns_3 : tie.Need-returns-3 invariant_loop decreases_loop
-returns_3 c = sym (looking_done _ _ c.before.loop.invariant c.loop_test.false)
+returns_3 : tie.Need-returns invariant_loop decreases_loop
+returns_3 c = sym (looking_done _ _ c.before.loop-at.invariant c.loop-at-test.false)
 
 pub rows_in_range_spec : {M : Type 1} → statement M
 rows_in_range_spec =

@@ -4,7 +4,6 @@ use mathlib.Core.Path.{ap, ◌∙◌}
 use native.Mathlib.Omega.{arith}
 use lib.ListN.{length}
 use borrow.Author.Rules.{rules}
-use borrow.Author.Tests.{not-true, not-false}
 use Rattle.script_play.proofs.Laws.{ended_fits}
 use Rattle.script_run.proofs.Rest.{over_rest}
 use Rattle.script_run.proofs.Steps.{number, full_part, end_owed}
@@ -21,7 +20,7 @@ returns : tie.Need-returns
 returns c =
     let r = c.before in
     let e = r.before.before.before.last_line.ensures in
-    let past = r.has_room.ensures.1 (not-true _ c.if1.true) in
+    let past = r.has_room.ensures.1 c.if1.true in
     let full = full_part _ _ past e.1.0 r.before.has_room_arg2.given.0 in (
       e.0,
       (e.1.0, (λ h. full, (λ h. omega (arith, ap number h), λ h. absurd (omega (arith, ap number h))))),
@@ -30,7 +29,7 @@ returns c =
 finish_requires : tie.Need-finish-requires
 finish_requires c κs =
     let t = c.before.before.before in
-    t.before.has_room.ensures.0 (not-false _ t.if1.false)
+    t.before.has_room.ensures.0 t.if1.false
 
 returns_2 : tie.Need-returns-2
 returns_2 c =
@@ -38,7 +37,7 @@ returns_2 c =
     let l = t.before.before.before.before in
     let e = l.last_line.ensures in
     let f = c.finish.ensures in
-    let room = t.before.has_room.ensures.0 (not-false _ t.if1.false) in
+    let room = t.before.has_room.ensures.0 t.if1.false in
     let at : l.last_line.result.at ≤ length l.last_line.new.1.1.1.1.0 =
     omega (arith, room, t.before.before.has_room_arg2.given.0) in (
       e.0

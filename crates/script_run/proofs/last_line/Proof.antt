@@ -5,7 +5,6 @@ use mathlib.Core.List.{[]}
 use native.Mathlib.Omega.{arith}
 use lib.ListN.{length}
 use borrow.Author.Rules.{rules}
-use borrow.Author.Tests.{not-true, not-false}
 use Rattle.script_run.proofs.Steps.{last_owed}
 use Rattle.script_run.proofs.last_line.Statement.{statement}
 use Rattle.script_run.proofs.last_line.Tie as tie
@@ -24,14 +23,14 @@ has_room_requires c κs = search rules
 
 returns_2 : tie.Need-returns-2
 returns_2 c =
-    let full = c.before.has_room.ensures.1 (not-true _ c.if2.true) in
+    let full = c.before.has_room.ensures.1 c.if2.true in
     (refl, ((start c.before).requires.1.1, λ h. absurd (omega (arith, full))))
 
 kept_line_requires : tie.Need-kept-line-requires
 kept_line_requires c κs =
     let t = c.before.before.before.before in
     let s = start t.before in
-    let room = t.before.has_room.ensures.0 (not-false _ t.if2.false) in (
+    let room = t.before.has_room.ensures.0 t.if2.false in (
       s.pre.0 room,
       (omega (arith, s.pre.1.0, c.before.kept_line_arg3.given.0), (room, t.before.before.has_room_arg2.given.0)),
     )
@@ -44,7 +43,7 @@ returns_3 c =
     let k = c.before.before.before in
     let t = k.before.before.before.before.before in
     let s = start t.before in
-    let room = t.before.has_room.ensures.0 (not-false _ t.if2.false) in
+    let room = t.before.has_room.ensures.0 t.if2.false in
     let some : 0 < s.args.run.length = omega (arith, t.before.before.before.before.if1.false) in
     let fits : s.args.run.length ≤ length s.args.text.now =
     omega (arith, s.pre.1.0, k.before.before.kept_line_arg3.given.0) in

@@ -5,7 +5,6 @@ use mathlib.Core.List.{List, ◌++◌}
 use native.Mathlib.Omega.{arith}
 use lib.ListN.{length, take, drop}
 use borrow.Author.Rules.{rules}
-use borrow.Author.Tests.{not-true, not-false}
 use Rattle.text_lines.specs.Lines.{ahead, feed_ahead, feed_bytes, most_kept}
 use Rattle.text_lines.proofs.Laws.{gathered_line}
 use Rattle.script_run.proofs.Steps.{behind, ends_within, unfed_step, fed_step}
@@ -50,7 +49,7 @@ returns c =
     let s = start gathered in
     let at = gathered_at gathered in
     let inside = s.pre.1.1.0 in
-    let f = sym (not-true _ c.if1.true) ∙ gathered_whole gathered in (
+    let f = sym c.if1.true ∙ gathered_whole gathered in (
       λ more. behind s.args.run.at s.args.out.now
           (unfed_step _ _ inside _ _ _ _ _ _ _ _ at s.pre.0 (gathered_text gathered) more f),
       (omega (arith, s.pre.1.1.1.0), (omega (arith, gathered_length gathered), ends_within _ _ inside _ at)),
@@ -69,7 +68,7 @@ returns_2 c =
     let s = start gathered in
     let at = gathered_at gathered in
     let inside = s.pre.1.1.0 in
-    let f = sym (not-false _ other.if1.false) ∙ gathered_whole gathered in
+    let f = sym other.if1.false ∙ gathered_whole gathered in
     let e = c.Kept-line.ensures in
     let w = ends_within _ _ inside _ at in (
       λ more.

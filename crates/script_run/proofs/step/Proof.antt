@@ -3,7 +3,6 @@ use mathlib.Core.Path.{◌∙◌, refl}
 use mathlib.Core.List.{[]}
 use native.Mathlib.Omega.{arith}
 use borrow.Author.Rules.{rules}
-use borrow.Author.Tests.{not-true, not-false}
 use Rattle.script_run.proofs.Steps.{full_part, room_goes, used_goes, end_goes}
 use Rattle.script_run.proofs.step.Statement.{statement}
 use Rattle.script_run.proofs.step.Tie as tie
@@ -41,7 +40,7 @@ returns_2 c =
     let l = r.before.before.before in
     let b = (some l).before.begin.ensures in
     let e = l.lines.ensures in
-    let full = r.has_room.ensures.1 (not-true _ c.if2.true) in (
+    let full = r.has_room.ensures.1 c.if2.true in (
       room_goes _ _ _ _ (λ more. b.0 _ _ ∙ rw b.1.1.1.1 at (e.0 more))
           (full_part _ _ full e.1.0 r.before.has_room_arg2.given.0),
       e.1.0,
@@ -53,7 +52,7 @@ returns_3 c =
     let l = r.before.before.before in
     let b = (some l).before.begin.ensures in
     let e = l.lines.ensures in
-    let room = r.has_room.ensures.0 (not-false _ c.if2.false) in (
+    let room = r.has_room.ensures.0 c.if2.false in (
       used_goes _ _ _ _ l.lines.result.from (e.1.1 room) (λ more. b.0 _ _ ∙ rw b.1.1.1.1 at (e.0 more))
           (omega (arith, (some l).if1.false)) refl,
       e.1.0,

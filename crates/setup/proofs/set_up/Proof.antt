@@ -7,7 +7,6 @@ use mathlib.Core.List.{List}
 use native.Mathlib.Omega.{arith}
 use lib.ListN.{length}
 use borrow.Author.Rules.{rules}
-use borrow.Author.Tests.{not-true, not-false}
 use Rattle.kinds.specs.Ranges.{in_range_links, most_links}
 use Rattle.kinds.proofs.Laws.{within_true}
 use Rattle.setup_list.specs.List.{links_in, links_pass}
@@ -25,7 +24,7 @@ numbers c = c.before.before.before.args.links.now
 fit : (c : tie.Else1) → in_range_links (links_in (numbers c.before.before)) ≡ true
 fit c =
     ap in_range_links (sym c.before.before.links_in.ensures)
-    ∙ (sym c.before.links_fit.ensures ∙ not-false _ c.if1.false)
+    ∙ (sym c.before.links_fit.ensures ∙ c.if1.false)
 
 few : (c : tie.Else1) → c.before.before.links_in.result ≤ most_links
 few c =
@@ -62,7 +61,7 @@ links_fit_requires c κs = search rules
 returns : tie.Need-returns
 returns c =
     let l = c.before.before in
-    ends_count _ _ _ l.links_in.ensures (sym c.before.links_fit.ensures ∙ not-true _ c.if1.true)
+    ends_count _ _ _ l.links_in.ensures (sym c.before.links_fit.ensures ∙ c.if1.true)
 
 bad_link_requires : tie.Need-bad-link-requires
 bad_link_requires c κs = few c

@@ -13,18 +13,17 @@ messages_requires c κs = search rules
 end_requires : tie.Need-end-requires
 end_requires c κs = search rules
 
-sub_sent : tie.Need-overflow-sub-sent
+sub_sent : tie.Need-overflow_sub-j
 sub_sent c = search rules
 
 sent_requires : tie.Need-sent-requires
 sent_requires c κs = search rules
 
-returns : tie.Need-returns
-returns c = end_is _ _ _ _ _ c.before.before.if1.true c.before.messages.ensures c.end.ensures
+returns : tie.Need-returns-then-j-eq0
+returns c = end_is _ _ _ _ _ c.if-j-eq0.true c.messages.ensures c.end.ensures
 
-returns_2 : tie.Need-returns-2
-returns_2 c = c.sent.ensures ∙ sym (entered_later _ _ _ (omega (arith, c.before.if1.false)))
+returns_2 : tie.Need-returns-else-j-eq0
+returns_2 c = c.sent.ensures ∙ sym (entered_later _ _ _ (omega (arith, c.if-j-eq0.false)))
 
 pub entered_spec : {M : Type 1} → statement M
-entered_spec =
-    tie.close (tie.spec messages_requires end_requires sub_sent sent_requires returns returns_2)
+entered_spec = tie.close (tie.spec messages_requires end_requires sub_sent sent_requires returns returns_2)

@@ -9,65 +9,49 @@ use borrow.Author.Rules.{rules}
 use Rattle.store_route.proofs.is_joined.Statement.{statement}
 use Rattle.store_route.proofs.is_joined.Tie as tie
 
-abbrev start : tie.After-shared-slice-known4 → tie.Start
-start c = c.before.before.before.before.before
+returns : tie.Need-returns-then-j-eq0
+returns c = sym (joins_first _ _ _ c.if-j-eq0.true)
 
-returns : tie.Need-returns
-returns c = sym (joins_first _ _ _ c.if1.true)
-
-add_here : tie.Need-overflow-add-here
+add_here : tie.Need-overflow_add-here
 add_here c = search rules
 
-mul_here : tie.Need-overflow-mul-here
+mul_here : tie.Need-offset_bounds-numbers-at
 mul_here c = search rules
 
-shared_slice_read_here : tie.Need-shared-slice-read-here
+shared_slice_read_here : tie.Need-bounds-numbers-at
 shared_slice_read_here c = search rules
 
-add_before : tie.Need-overflow-add-before
+add_before : tie.Need-overflow_add-before
 add_before c = search rules
 
-sub_before : tie.Need-overflow-sub-before
+sub_before : tie.Need-overflow_sub-before
 sub_before c = search rules
 
-mul_before : tie.Need-overflow-mul-before
+mul_before : tie.Need-offset_bounds-numbers-at-2
 mul_before c = search rules
 
-shared_slice_read_before : tie.Need-shared-slice-read-before
+shared_slice_read_before : tie.Need-bounds-numbers-at-2
 shared_slice_read_before c = search rules
 
 from_requires : tie.Need-from-requires
 from_requires c κs =
-    let s = start c in (
-      s.pre.0,
-      link_bound s.args.store.now (from s.args.numbers.now s.args.at) (s.args.j + 1) s.pre.1.1.0
-          s.pre.1.1.1 s.args.j (omega arith),
+    (
+      c.requires.0,
+      link_bound c.args.store.now (from c.args.numbers.now c.args.at) (c.args.j + 1) c.requires.1.1.0
+          c.requires.1.1.1 c.args.j (omega arith),
     )
 
 to_requires : tie.Need-to-requires
 to_requires c κs =
-    let s = start c.before in (
-      s.pre.0,
-      link_bound s.args.store.now (from s.args.numbers.now s.args.at) (s.args.j + 1) s.pre.1.1.0
-          s.pre.1.1.1 (s.args.j - 1) (omega arith),
+    (
+      c.requires.0,
+      link_bound c.args.store.now (from c.args.numbers.now c.args.at) (c.args.j + 1) c.requires.1.1.0
+          c.requires.1.1.1 (c.args.j - 1) (omega arith),
     )
 
-returns_2 : tie.Need-returns-2
+returns_2 : tie.Need-returns
 returns_2 c =
-    joined _ _ _ (omega (arith, c.before.before.before.before.if1.false)) _ _ c.before.from.ensures c.to.ensures
+    joined _ _ _ (omega (arith, c.if-j-eq0.false)) _ _ c.from.ensures c.to.ensures
 
 pub is_joined_spec : {M : Type 1} → statement M
-is_joined_spec =
-    tie.close
-    (tie.spec
-    returns
-    add_here
-    mul_here
-    shared_slice_read_here
-    sub_before
-    add_before
-    mul_before
-    shared_slice_read_before
-    from_requires
-    to_requires
-    returns_2)
+is_joined_spec = tie.close (tie.spec returns add_here mul_here shared_slice_read_here sub_before add_before mul_before shared_slice_read_before from_requires to_requires returns_2)

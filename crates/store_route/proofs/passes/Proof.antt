@@ -9,114 +9,76 @@ use Rattle.store_route.proofs.Walk.{walking_parted, walking_more, walking_done}
 use Rattle.store_route.proofs.passes.Statement.{statement}
 use Rattle.store_route.proofs.passes.Tie as tie
 
-abbrev invariant_loop : tie.invariant_loop
+abbrev invariant_loop : tie.invariant-loop-j
 invariant_loop store numbers at n links met₀ j₀ met j = Walking store (from numbers at) n links met j
 
-abbrev decreases_loop : tie.decreases_loop
+abbrev decreases_loop : tie.decreases-loop-j
 decreases_loop store numbers at n links met₀ j₀ met j = n - j
 
-links_requires : tie.Need-links-requires invariant_loop decreases_loop
+links_requires : tie.Need-links-links-requires invariant_loop decreases_loop
 links_requires c κs = search rules
 
-loop_holds : tie.Need-loop-init invariant_loop decreases_loop
-loop_holds c = walking_none _ _ _ _ c.links.ensures c.before.before.before.requires.1.1
+loop_holds : tie.Need-loop-j-init invariant_loop decreases_loop
+loop_holds c = walking_none _ _ _ _ c.links-links.ensures c.requires.1.1
 
-add_l : tie.Need-overflow-add-l invariant_loop decreases_loop
+add_l : tie.Need-overflow_add-l invariant_loop decreases_loop
 add_l c = omega arith
 
-mul_l : tie.Need-overflow-mul-l invariant_loop decreases_loop
+mul_l : tie.Need-offset_bounds-numbers-at invariant_loop decreases_loop
 mul_l c = search rules
 
-shared_slice_read_l : tie.Need-shared-slice-read-l invariant_loop decreases_loop
+shared_slice_read_l : tie.Need-bounds-numbers-at invariant_loop decreases_loop
 shared_slice_read_l c = omega arith
 
-returns : tie.Need-returns invariant_loop decreases_loop
+returns : tie.Need-returns-then-l-links invariant_loop decreases_loop
 returns c =
-    let t = c.before.before in
-    walking_unknown _ _ _ _ _ _ t.before.loop.invariant t.loop_test.true c.if1.true
+    walking_unknown _ _ _ _ _ _ c.loop-j.invariant c.loop-j-test.true c.if-l-links.true
 
-mul_if2 : tie.Need-overflow-mul-if2 invariant_loop decreases_loop
+mul_if2 : tie.Need-offset_bounds-met-l invariant_loop decreases_loop
 mul_if2 c =
-    let t = c.before.before in
-    let k = walking_few _ _ _ _ _ _ t.before.loop.invariant t.loop_test.true c.if1.false in
+    let k = walking_few _ _ _ _ _ _ c.loop-j.invariant c.loop-j-test.true c.if-l-links.false in
     omega arith
 
-array_read_if2 : tie.Need-array-read-if2 invariant_loop decreases_loop
+array_read_if2 : tie.Need-bounds-met-l invariant_loop decreases_loop
 array_read_if2 c =
-    let t = c.before.before in
-    walking_few _ _ _ _ _ _ t.before.loop.invariant t.loop_test.true c.if1.false
+    walking_few _ _ _ _ _ _ c.loop-j.invariant c.loop-j-test.true c.if-l-links.false
 
-returns_2 : tie.Need-returns-2 invariant_loop decreases_loop
+returns_2 : tie.Need-returns-then-met-l-eq1 invariant_loop decreases_loop
 returns_2 c =
-    let i = c.before in
-    let t = i.before.before in
-    walking_again _ _ _ _ _ _ t.before.loop.invariant t.loop_test.true i.if1.false c.if2.true
+    walking_again _ _ _ _ _ _ c.loop-j.invariant c.loop-j-test.true c.if-l-links.false c.if-met-l-eq1.true
 
-mul_met : tie.Need-overflow-mul-met invariant_loop decreases_loop
+mul_met : tie.Need-offset_bounds-met-l-in-loop-j invariant_loop decreases_loop
 mul_met c =
-    let i = c.before in
-    let t = i.before.before in
-    let k = walking_few _ _ _ _ _ _ t.before.loop.invariant t.loop_test.true i.if1.false in
+    let k = walking_few _ _ _ _ _ _ c.loop-j.invariant c.loop-j-test.true c.if-l-links.false in
     omega arith
 
-array_write_met : tie.Need-array-write-met invariant_loop decreases_loop
+array_write_met : tie.Need-bounds-met-l-in-loop-j invariant_loop decreases_loop
 array_write_met c =
-    let i = c.before in
-    let t = i.before.before in
-    walking_few _ _ _ _ _ _ t.before.loop.invariant t.loop_test.true i.if1.false
+    walking_few _ _ _ _ _ _ c.loop-j.invariant c.loop-j-test.true c.if-l-links.false
 
-is_joined_requires : tie.Need-is-joined-requires invariant_loop decreases_loop
+is_joined_requires : tie.Need-is_joined-requires invariant_loop decreases_loop
 is_joined_requires c κs =
-    let i = c.before in
-    let t = i.before.before in
-    let s = t.before.before.before.before.before in
-    let known = walking_known _ _ _ _ _ _ t.before.loop.invariant t.loop_test.true i.if1.false in
-    (s.requires.0, (omega (arith, s.requires.1.0, t.loop_test.true), (s.requires.1.1, known)))
+    let known = walking_known _ _ _ _ _ _ c.loop-j.invariant c.loop-j-test.true c.if-l-links.false in
+    (c.requires.0, (omega (arith, c.requires.1.0, c.loop-j-test.true), (c.requires.1.1, known)))
 
-returns_3 : tie.Need-returns-3 invariant_loop decreases_loop
+returns_3 : tie.Need-returns-then-not-is_joined invariant_loop decreases_loop
 returns_3 c =
-    let i = c.before.before.before in
-    let t = i.before.before in
-    walking_parted _ _ _ _ _ _ t.before.loop.invariant t.loop_test.true i.if1.false
-    (refuted c.before.is_joined.ensures c.if3.true)
+    walking_parted _ _ _ _ _ _ c.loop-j.invariant c.loop-j-test.true c.if-l-links.false
+    (refuted c.is_joined.ensures c.if-not-is_joined.true)
 
-add_j : tie.Need-overflow-add-j invariant_loop decreases_loop
+add_j : tie.Need-overflow_add-j invariant_loop decreases_loop
 add_j c = omega arith
 
-loop_less : tie.Need-loop-smaller invariant_loop decreases_loop
+loop_less : tie.Need-loop-j-smaller invariant_loop decreases_loop
 loop_less c = omega arith
 
-loop_again : tie.Need-loop-preserved invariant_loop decreases_loop
+loop_again : tie.Need-loop-j-preserved invariant_loop decreases_loop
 loop_again c =
-    let e = c.before.before in
-    let i = e.before in
-    let t = i.before.before in
-    walking_more _ _ _ _ _ _ t.before.loop.invariant t.loop_test.true i.if1.false e.if2.false
-    (held c.before.is_joined.ensures c.if3.false)
+    walking_more _ _ _ _ _ _ c.loop-j.invariant c.loop-j-test.true c.if-l-links.false c.if-met-l-eq1.false
+    (held c.is_joined.ensures c.if-not-is_joined.false)
 
-returns_4 : tie.Need-returns-4 invariant_loop decreases_loop
-returns_4 c = walking_done _ _ _ _ _ _ c.before.loop.invariant c.loop_test.false
+returns_4 : tie.Need-returns invariant_loop decreases_loop
+returns_4 c = walking_done _ _ _ _ _ _ c.loop-j.invariant c.loop-j-test.false
 
 pub passes_spec : {M : Type 1} → statement M
-passes_spec =
-    tie.close
-    (tie.spec
-    invariant_loop
-    decreases_loop
-    links_requires
-    loop_holds
-    add_l
-    mul_l
-    shared_slice_read_l
-    returns
-    mul_if2
-    array_read_if2
-    returns_2
-    mul_met
-    array_write_met
-    is_joined_requires
-    returns_3
-    add_j
-    loop_less
-    loop_again
-    returns_4)
+passes_spec = tie.close (tie.spec invariant_loop decreases_loop links_requires loop_holds add_l mul_l shared_slice_read_l returns mul_if2 array_read_if2 returns_2 mul_met array_write_met is_joined_requires returns_3 add_j loop_less loop_again returns_4)

@@ -8,85 +8,62 @@ use Rattle.store_route.proofs.Seen.{Seeing, seeing_none, seeing_again, seeing_mo
 use Rattle.store_route.proofs.repeated_link.Statement.{statement}
 use Rattle.store_route.proofs.repeated_link.Tie as tie
 
-abbrev invariant_loop : tie.invariant_loop
+abbrev invariant_loop : tie.invariant-loop-j
 invariant_loop numbers at n seen₀ j₀ seen j = Seeing (from numbers at) n seen j
 
-abbrev decreases_loop : tie.decreases_loop
+abbrev decreases_loop : tie.decreases-loop-j
 decreases_loop numbers at n seen₀ j₀ seen j = n - j
 
-loop_holds : tie.Need-loop-init invariant_loop decreases_loop
+loop_holds : tie.Need-loop-j-init invariant_loop decreases_loop
 loop_holds c = seeing_none _ _
 
-add_l : tie.Need-overflow-add-l invariant_loop decreases_loop
+add_l : tie.Need-overflow_add-l invariant_loop decreases_loop
 add_l c = omega arith
 
-mul_l : tie.Need-overflow-mul-l invariant_loop decreases_loop
+mul_l : tie.Need-offset_bounds-numbers-at invariant_loop decreases_loop
 mul_l c = search rules
 
-shared_slice_read_l : tie.Need-shared-slice-read-l invariant_loop decreases_loop
+shared_slice_read_l : tie.Need-bounds-numbers-at invariant_loop decreases_loop
 shared_slice_read_l c = omega arith
 
-mul_if1 : tie.Need-overflow-mul-if1 invariant_loop decreases_loop
+mul_if1 : tie.Need-offset_bounds-seen-l invariant_loop decreases_loop
 mul_if1 c =
-    let t = c.before in
-    let k = t.before.before.requires.1 t.before.loop.j t.loop_test.true in
+    let k = c.requires.1 c.loop-j.j c.loop-j-test.true in
     omega arith
 
-array_read_if1 : tie.Need-array-read-if1 invariant_loop decreases_loop
+array_read_if1 : tie.Need-bounds-seen-l invariant_loop decreases_loop
 array_read_if1 c =
-    let t = c.before in
-    let k = t.before.before.requires.1 t.before.loop.j t.loop_test.true in
+    let k = c.requires.1 c.loop-j.j c.loop-j-test.true in
     k
 
-returns : tie.Need-returns invariant_loop decreases_loop
+returns : tie.Need-returns-then-seen-l-eq1 invariant_loop decreases_loop
 returns c =
-    let t = c.before.before in
-    passing_first _ _ _ t.before.loop.invariant.passing t.loop_test.true
-    (seeing_again _ _ _ _ t.before.loop.invariant c.if1.true)
+    passing_first _ _ _ c.loop-j.invariant.passing c.loop-j-test.true
+    (seeing_again _ _ _ _ c.loop-j.invariant c.if-seen-l-eq1.true)
 
-mul_seen : tie.Need-overflow-mul-seen invariant_loop decreases_loop
+mul_seen : tie.Need-offset_bounds-seen-l-in-loop-j invariant_loop decreases_loop
 mul_seen c =
-    let t = c.before.before in
-    let k = t.before.before.requires.1 t.before.loop.j t.loop_test.true in
+    let k = c.requires.1 c.loop-j.j c.loop-j-test.true in
     omega arith
 
-array_write_seen : tie.Need-array-write-seen invariant_loop decreases_loop
+array_write_seen : tie.Need-bounds-seen-l-in-loop-j invariant_loop decreases_loop
 array_write_seen c =
-    let t = c.before.before in
-    let k = t.before.before.requires.1 t.before.loop.j t.loop_test.true in
+    let k = c.requires.1 c.loop-j.j c.loop-j-test.true in
     k
 
-add_j : tie.Need-overflow-add-j invariant_loop decreases_loop
+add_j : tie.Need-overflow_add-j invariant_loop decreases_loop
 add_j c = omega arith
 
-loop_less : tie.Need-loop-smaller invariant_loop decreases_loop
+loop_less : tie.Need-loop-j-smaller invariant_loop decreases_loop
 loop_less c = omega arith
 
-loop_again : tie.Need-loop-preserved invariant_loop decreases_loop
+loop_again : tie.Need-loop-j-preserved invariant_loop decreases_loop
 loop_again c =
-    let t = c.before.before in
-    let k = t.before.before.requires.1 t.before.loop.j t.loop_test.true in
-    seeing_more _ _ _ _ t.before.loop.invariant t.loop_test.true k c.if1.false
+    let k = c.requires.1 c.loop-j.j c.loop-j-test.true in
+    seeing_more _ _ _ _ c.loop-j.invariant c.loop-j-test.true k c.if-seen-l-eq1.false
 
-returns_2 : tie.Need-returns-2 invariant_loop decreases_loop
-returns_2 c = passing_end _ _ _ c.before.loop.invariant.passing c.loop_test.false
+returns_2 : tie.Need-returns invariant_loop decreases_loop
+returns_2 c = passing_end _ _ _ c.loop-j.invariant.passing c.loop-j-test.false
 
 pub repeated_link_spec : {M : Type 1} → statement M
-repeated_link_spec =
-    tie.close
-    (tie.spec
-    invariant_loop
-    decreases_loop
-    loop_holds
-    add_l
-    mul_l
-    shared_slice_read_l
-    mul_if1
-    array_read_if1
-    returns
-    mul_seen
-    array_write_seen
-    add_j
-    loop_less
-    loop_again
-    returns_2)
+repeated_link_spec = tie.close (tie.spec invariant_loop decreases_loop loop_holds add_l mul_l shared_slice_read_l mul_if1 array_read_if1 returns mul_seen array_write_seen add_j loop_less loop_again returns_2)

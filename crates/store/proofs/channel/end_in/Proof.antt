@@ -6,22 +6,22 @@ use Rattle.store.specs.Layout.{number_at}
 use Rattle.store.proofs.channel.end_in.Statement.{statement}
 use Rattle.store.proofs.channel.end_in.Tie as tie
 
-mul_result : tie.Need-overflow-mul-result
+mul_result : tie.Need-overflow_mul-result
 mul_result c = search rules
 
-add_result : tie.Need-overflow-add-result
+add_result : tie.Need-overflow_add-result
 add_result c = search rules
 
-add_result_2 : tie.Need-overflow-add-result-2
+add_result_2 : tie.Need-overflow_add-result-2
 add_result_2 c = search rules
 
-add_result_3 : tie.Need-overflow-add-result-3
+add_result_3 : tie.Need-overflow_add-result-3
 add_result_3 c = search rules
 
-mul_result_2 : tie.Need-overflow-mul-result-2
+mul_result_2 : tie.Need-offset_bounds-store-x
 mul_result_2 c = search rules
 
-shared_slice_read_result : tie.Need-shared-slice-read-result
+shared_slice_read_result : tie.Need-bounds-store-x
 shared_slice_read_result c = search rules
 
 returns : tie.Need-returns
