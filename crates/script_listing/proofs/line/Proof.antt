@@ -7,30 +7,24 @@ use Rattle.script_listing.proofs.Pieces.{line_put}
 use Rattle.script_listing.proofs.line.Statement.{statement}
 use Rattle.script_listing.proofs.line.Tie as tie
 
-abbrev start : tie.After-put-phrase → tie.Start
-start p = p.before.before.before.before.before
-
-put_phrase_requires : tie.Need-put-phrase-requires
+put_phrase_requires : tie.Need-put_phrase-end-requires
 put_phrase_requires c κs = search rules
 
-slice_write_out : tie.Need-slice-write-out
+slice_write_out : tie.Need-bounds-out-end
 slice_write_out c =
-    let p = c.before.before in
-    omega (arith, p.put_phrase.ensures.0, phrase_length (start p).args.word.now (start p).args.numbers.now)
+    omega (arith, c.put_phrase-end.ensures.0, phrase_length c.args.word.now c.args.numbers.now)
 
-add_result : tie.Need-overflow-add-result
+add_result : tie.Need-overflow_add-result
 add_result c =
-    let p = c.before.before in
-    omega (arith, p.put_phrase.ensures.0, phrase_length (start p).args.word.now (start p).args.numbers.now)
+    omega (arith, c.put_phrase-end.ensures.0, phrase_length c.args.word.now c.args.numbers.now)
 
-same_length : tie.Need-same-length
+same_length : tie.Need-shape_of-out
 same_length c = search rules
 
 returns : tie.Need-returns
 returns c =
-    let p = c.before.before in
     putting_done _ _ _ _ _
-    (line_put _ _ (start p).args.word.now (start p).args.numbers.now (start p).requires _ _ p.put_phrase.ensures)
+    (line_put _ _ c.args.word.now c.args.numbers.now c.requires _ _ c.put_phrase-end.ensures)
 
 pub line_spec : {M : Type 1} → statement M
 line_spec = tie.close (tie.spec put_phrase_requires slice_write_out add_result same_length returns)

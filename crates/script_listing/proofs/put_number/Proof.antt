@@ -9,24 +9,21 @@ use Rattle.script_listing.proofs.Pieces.{number_put}
 use Rattle.script_listing.proofs.put_number.Statement.{statement}
 use Rattle.script_listing.proofs.put_number.Tie as tie
 
-abbrev start : tie.After-write → tie.Start
-start c = c.before.before.before
-
-slice_write_out : tie.Need-slice-write-out
+slice_write_out : tie.Need-bounds-out-at
 slice_write_out c = search rules
 
-add_write : tie.Need-overflow-add-write
+add_write : tie.Need-overflow_add-at
 add_write c = search rules
 
 write_requires : tie.Need-write-requires
 write_requires c κs = simp length-set (omega arith)
 
 put : (c : tie.After-write)
-    → Putting (start c).args.out.now (start c).args.at ((start c).args.byte ∷ decimal (start c).args.n)
+    → Putting c.args.out.now c.args.at (c.args.byte ∷ decimal c.args.n)
     c.write.new.0 c.write.result
-put c = number_put _ _ _ _ (start c).requires _ _ c.write.ensures.1 c.write.ensures.0
+put c = number_put _ _ _ _ c.requires _ _ c.write.ensures.1 c.write.ensures.0
 
-same_length : tie.Need-same-length
+same_length : tie.Need-shape_of-out
 same_length c = putting_size _ _ _ _ _ (put c.before.before)
 
 returns : tie.Need-returns

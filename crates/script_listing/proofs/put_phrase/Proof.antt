@@ -9,78 +9,54 @@ use Rattle.script_listing.proofs.Pieces.{two_pieces}
 use Rattle.script_listing.proofs.put_phrase.Statement.{statement}
 use Rattle.script_listing.proofs.put_phrase.Tie as tie
 
-abbrev invariant_loop : tie.invariant_loop
+abbrev invariant_loop : tie.invariant-loop-i
 invariant_loop out₀ at word numbers end₀ i₀ out end i =
     (i ≤ length numbers) × Putting out₀ end₀ (spaced (take i numbers)) out end
 
-abbrev decreases_loop : tie.decreases_loop
+abbrev decreases_loop : tie.decreases-loop-i
 decreases_loop out₀ at word numbers end₀ i₀ out end i = length numbers - i
 
-abbrev start : tie.After-slice-known2 invariant_loop decreases_loop → tie.Start invariant_loop decreases_loop
-start c = c.before.before.before.before.before.before.before
-
-put_text_requires : tie.Need-put-text-requires invariant_loop decreases_loop
+put_text_requires : tie.Need-put_text-end-requires invariant_loop decreases_loop
 put_text_requires c κs = omega arith
 
 -- the numbers have room behind the word
-room : (c : tie.After-slice-known2 invariant_loop decreases_loop)
-    → c.before.before.put_text.result + 21 * length (start c).args.numbers.now
-    ≤ length c.before.before.put_text.new.0
-room c = omega (arith, c.before.before.put_text.ensures.0)
+room : (c : tie.After-slice_known-2-1 invariant_loop decreases_loop)
+    → c.put_text-end.result + 21 * length c.args.numbers.now
+    ≤ length c.put_text-end.new.0
+room c = omega (arith, c.put_text-end.ensures.0)
 
-loop_holds : tie.Need-loop-init invariant_loop decreases_loop
-loop_holds c = (omega arith, spaced_none (start c).args.numbers.now _ _ (room c))
+loop_holds : tie.Need-loop-i-init invariant_loop decreases_loop
+loop_holds c = (omega arith, spaced_none c.args.numbers.now _ _ (room c))
 
-mul_put_number : tie.Need-overflow-mul-put-number invariant_loop decreases_loop
+mul_put_number : tie.Need-offset_bounds-numbers-i invariant_loop decreases_loop
 mul_put_number c = omega arith
 
-shared_slice_read_put_number : tie.Need-shared-slice-read-put-number invariant_loop decreases_loop
+shared_slice_read_put_number : tie.Need-bounds-numbers-i invariant_loop decreases_loop
 shared_slice_read_put_number c = omega arith
 
-put_number_requires : tie.Need-put-number-requires invariant_loop decreases_loop
+put_number_requires : tie.Need-put_number-end-requires invariant_loop decreases_loop
 put_number_requires c κs =
-    let i = c.before.before in
-    let a = i.before in
-    let s = a.loop.invariant.1 in
-    omega (arith, putting_size _ _ _ _ _ s, spaced_fits _ _ _ (room a.before) _ _ _ s i.loop_test.true)
+    let s = c.loop-i.invariant.1 in
+    omega (arith, putting_size _ _ _ _ _ s, spaced_fits _ _ _ (room c.before.before.before.before) _ _ _ s c.loop-i-test.true)
 
-add_i : tie.Need-overflow-add-i invariant_loop decreases_loop
+add_i : tie.Need-overflow_add-i invariant_loop decreases_loop
 add_i c = omega arith
 
-loop_less : tie.Need-loop-smaller invariant_loop decreases_loop
+loop_less : tie.Need-loop-i-smaller invariant_loop decreases_loop
 loop_less c = omega arith
 
-loop_again : tie.Need-loop-preserved invariant_loop decreases_loop
+loop_again : tie.Need-loop-i-preserved invariant_loop decreases_loop
 loop_again c =
-    let p = c.before.before in
-    let i = p.before.before.before in
-    let a = i.before in
-    (omega arith, spaced_step _ _ _ (room a.before) _ _ _ a.loop.invariant.1 i.loop_test.true _ _ p.put_number.ensures)
+    (omega arith, spaced_step _ _ _ (room c.before.before.before.before.before.before.before) _ _ _ c.loop-i.invariant.1 c.loop-i-test.true _ _ c.put_number-end.ensures)
 
-same_length : tie.Need-same-length invariant_loop decreases_loop
-same_length c = omega (arith, putting_size _ _ _ _ _ c.before.loop.invariant.1)
+same_length : tie.Need-shape_of-out invariant_loop decreases_loop
+same_length c = omega (arith, putting_size _ _ _ _ _ c.loop-i.invariant.1)
 
 returns : tie.Need-returns invariant_loop decreases_loop
 returns c =
-    let a = c.before in
-    let s = start a.before in
-    let behind = spaced_done _ _ _ (room a.before) _ _ _ a.loop.invariant.1 c.loop_test.false in
-    let first = a.before.before.before.put_text.ensures in
-    putting_done _ _ _ _ _ (two_pieces _ _ s.args.word.now _ (omega arith) _ _ first _ _ behind)
+    let behind = spaced_done _ _ _ (room c.before.before) _ _ _ c.loop-i.invariant.1 c.loop-i-test.false in
+    let first = c.put_text-end.ensures in
+    putting_done _ _ _ _ _ (two_pieces _ _ c.args.word.now _ (omega arith) _ _ first _ _ behind)
 
 pub put_phrase_spec : {M : Type 1} → statement M
-put_phrase_spec =
-    tie.close
-    (tie.spec
-    invariant_loop
-    decreases_loop
-    put_text_requires
-    loop_holds
-    mul_put_number
-    shared_slice_read_put_number
-    put_number_requires
-    add_i
-    loop_less
-    loop_again
-    same_length
-    returns)
+put_phrase_spec = tie.close (tie.spec invariant_loop decreases_loop put_text_requires loop_holds mul_put_number shared_slice_read_put_number put_number_requires add_i loop_less loop_again same_length returns)

@@ -7,6 +7,7 @@ use mathlib.Core.List.{List}
 use native.Mathlib.Omega.{arith}
 use lib.ListN.{length}
 use borrow.Author.Rules.{rules}
+use borrow.Author.Tests.{not-true, not-false}
 use Rattle.kinds.specs.Ranges.{in_range_links, most_links}
 use Rattle.kinds.proofs.Laws.{within_true}
 use Rattle.setup_list.specs.List.{links_in, links_pass}
@@ -18,104 +19,79 @@ use Rattle.setup.proofs.set_up.Statement.{statement}
 use Rattle.setup.proofs.set_up.Tie as tie
 
 -- what each check that was passed says
-abbrev numbers : tie.After-links-in → List ℕ
-numbers c = c.before.before.before.args.links.now
+abbrev numbers : tie.After-links_in-n → List ℕ
+numbers c = c.args.links.now
 
-fit : (c : tie.Else1) → in_range_links (links_in (numbers c.before.before)) ≡ true
+fit : (c : tie.Else-not-links_fit) → in_range_links (links_in (numbers c.before.before)) ≡ true
 fit c =
-    ap in_range_links (sym c.before.before.links_in.ensures)
-    ∙ (sym c.before.links_fit.ensures ∙ c.if1.false)
+    ap in_range_links (sym c.links_in-n.ensures)
+    ∙ (sym c.links_fit.ensures ∙ not-false _ c.if-not-links_fit.false)
 
-few : (c : tie.Else1) → c.before.before.links_in.result ≤ most_links
+few : (c : tie.Else-not-links_fit) → c.links_in-n.result ≤ most_links
 few c =
     let h = (within_true 1 most_links (links_in (numbers c.before.before)) (fit c)).1 in
-    omega (arith, c.before.before.links_in.ensures)
+    omega (arith, c.links_in-n.ensures)
 
-pass : (c : tie.Else2) → links_pass (numbers c.before.before.before.before) ≡ true
-pass c = none_bad _ _ _ c.before.before.before.before.links_in.ensures c.before.bad_link.ensures c.if2.false
+pass : (c : tie.Else-bad-n) → links_pass (numbers c.before.before.before.before) ≡ true
+pass c = none_bad _ _ _ c.links_in-n.ensures c.bad_link-bad.ensures c.if-bad-n.false
 
-whole : (c : tie.Else2)
-    → let l = c.before.before.before.before in 4 * l.links_in.result ≤ length (numbers l)
+whole : (c : tie.Else-bad-n)
+    → 4 * c.links_in-n.result ≤ length (numbers c.before.before.before.before)
 whole c =
-    let l = c.before.before.before.before in
-    omega (arith, pass_whole (numbers l) (pass c), l.links_in.ensures)
+    omega (arith, pass_whole (numbers c.before.before.before.before) (pass c), c.links_in-n.ensures)
 
 -- so the store is written only once it is known to be long enough
 clear_requires : tie.Need-clear-requires
 clear_requires c κs = search rules
 
--- the links were counted
-abbrev counted : tie.Else3 → tie.After-links-in
-counted c = c.before.before.before.before.before
+accepted : (c : tie.Else-store-lt-LENGTH)
+    → Accepted c.args.store.now (numbers c.before.before.before.before.before)
+accepted c = record { count = fit c.before.before.before; pass = pass c.before; long = c.if-store-lt-LENGTH.false }
 
-accepted : (c : tie.Else3)
-    → let l = counted c in Accepted l.before.before.before.args.store.now (numbers l)
-accepted c = record { count = fit c.before.before.before; pass = pass c.before; long = c.if3.false }
-
-links_in_requires : tie.Need-links-in-requires
+links_in_requires : tie.Need-links_in-n-requires
 links_in_requires c κs = search rules
 
-links_fit_requires : tie.Need-links-fit-requires
+links_fit_requires : tie.Need-links_fit-requires
 links_fit_requires c κs = search rules
 
-returns : tie.Need-returns
+returns : tie.Need-returns-then-not-links_fit
 returns c =
-    let l = c.before.before in
-    ends_count _ _ _ l.links_in.ensures (sym c.before.links_fit.ensures ∙ c.if1.true)
+    ends_count _ _ _ c.links_in-n.ensures (sym c.links_fit.ensures ∙ not-true _ c.if-not-links_fit.true)
 
-bad_link_requires : tie.Need-bad-link-requires
+bad_link_requires : tie.Need-bad_link-bad-requires
 bad_link_requires c κs = few c
 
-returns_2 : tie.Need-returns-2
+returns_2 : tie.Need-returns-then-bad-n
 returns_2 c =
-    let e = c.before.before in
-    ends_link _ _ _ e.before.before.links_in.ensures _ (fit e) c.before.bad_link.ensures c.if2.true
+    ends_link _ _ _ c.links_in-n.ensures _ (fit c.before.before) c.bad_link-bad.ensures c.if-bad-n.true
 
-returns_3 : tie.Need-returns-3
-returns_3 c = ends_short _ _ (fit c.before.before.before) (pass c.before) c.if3.true
+returns_3 : tie.Need-returns-then-store-lt-LENGTH
+returns_3 c = ends_short _ _ (fit c.before.before.before) (pass c.before) c.if-store-lt-LENGTH.true
 
-put_links_requires : tie.Need-put-links-requires
+put_links_requires : tie.Need-put_links-requires
 put_links_requires c κs = search rules
 
-put_links_requires_2 : tie.Need-put-links-requires-2
+put_links_requires_2 : tie.Need-put_links-requires-2
 put_links_requires_2 c κs =
-    let e = c.before.before.before.before.before.before.before.before.before in
-    (search rules, (few e.before.before.before, whole e.before))
+    (search rules, (few c.before.before.before.before.before.before.before.before.before.before.before.before, whole c.before.before.before.before.before.before.before.before.before.before))
 
-same_length : tie.Need-same-length
+same_length : tie.Need-shape_of-store
 same_length c = search rules
 
-returns_4 : tie.Need-returns-4
+returns_4 : tie.Need-returns
 returns_4 c =
-    let links = c.before.before in
-    let head = links.before.before.before.before in
-    let cleared = head.before.before.before.before in
-    let e = cleared.before.before in
     ends_ready
     _
     _
     _
-    (counted e).links_in.ensures
+    c.links_in-n.ensures
     _
     _
     _
-    (accepted e)
-    cleared.clear.ensures
-    head.put_links.ensures
-    links.put_links2.ensures
+    (accepted c.before.before.before.before.before.before.before.before.before.before.before.before)
+    c.clear.ensures
+    c.put_links.ensures
+    c.put_links-2.ensures
 
 pub set_up_spec : {M : Type 1} → statement M
-set_up_spec =
-    tie.close
-    (tie.spec
-    links_in_requires
-    links_fit_requires
-    returns
-    bad_link_requires
-    returns_2
-    returns_3
-    clear_requires
-    put_links_requires
-    put_links_requires_2
-    same_length
-    returns_4)
+set_up_spec = tie.close (tie.spec links_in_requires links_fit_requires returns bad_link_requires returns_2 returns_3 clear_requires put_links_requires put_links_requires_2 same_length returns_4)

@@ -12,104 +12,74 @@ use Rattle.slot_move.proofs.Moves.{moving_done}
 use Rattle.slot_move.proofs.move_on.Statement.{statement}
 use Rattle.slot_move.proofs.move_on.Tie as tie
 
-abbrev invariant_loop : tie.invariant_loop
+abbrev invariant_loop : tie.invariant-loop-l
 invariant_loop store₀ picks links slot l₀ store l = Moving store₀ l store
 
-abbrev decreases_loop : tie.decreases_loop
+abbrev decreases_loop : tie.decreases-loop-l
 decreases_loop store₀ picks links slot l₀ store l = links - l
 
-links_requires : tie.Need-links-requires invariant_loop decreases_loop
-links_requires c κs = (sound_is _ c.before.before.requires.0).long
+links_requires : tie.Need-links-links-requires invariant_loop decreases_loop
+links_requires c κs = (sound_is _ c.requires.0).long
 
-clock_requires : tie.Need-clock-requires invariant_loop decreases_loop
-clock_requires c κs = (sound_is _ c.before.before.before.before.requires.0).long
+clock_requires : tie.Need-clock-slot-requires invariant_loop decreases_loop
+clock_requires c κs = (sound_is _ c.requires.0).long
 
-loop_holds : tie.Need-loop-init invariant_loop decreases_loop
-loop_holds c = moving_none _ c.before.before.before.before.before.requires.0
+loop_holds : tie.Need-loop-l-init invariant_loop decreases_loop
+loop_holds c = moving_none _ c.requires.0
 
-pick_requires : tie.Need-pick-requires invariant_loop decreases_loop
+pick_requires : tie.Need-pick-leaving-requires invariant_loop decreases_loop
 pick_requires c κs = omega arith
 
-abbrev start : tie.At-loop invariant_loop decreases_loop → tie.Start invariant_loop decreases_loop
-start a = a.before.before.before.before.before.before
-
 -- the link in hand, and what it picked
-inside : (c : tie.In-loop invariant_loop decreases_loop) → c.before.loop.l < links_of (start c.before).args.store.now
+inside : (c : tie.In-loop-l invariant_loop decreases_loop) → c.loop-l.l < links_of c.args.store.now
 inside c = omega arith
 
-none : (c : tie.After-pick invariant_loop decreases_loop) → c.pick.result ≤ 0
-    → pick_of (start c.before.before).args.store.now c.before.before.loop.l ≡ 0
+none : (c : tie.After-pick-leaving invariant_loop decreases_loop) → c.pick-leaving.result ≤ 0
+    → pick_of c.args.store.now c.loop-l.l ≡ 0
 none c h =
-    let s = start c.before.before in
-    no_row _ s.pre.0 _ s.pre.1.0 _ _ (inside c.before) c.pick.ensures h
+    no_row _ c.requires.0 _ c.requires.1.0 _ _ (inside c.before) c.pick-leaving.ensures h
 
-row : (c : tie.After-pick invariant_loop decreases_loop) → 0 < c.pick.result
-    → pick_of (start c.before.before).args.store.now c.before.before.loop.l ≡ suc (c.pick.result - 1)
+row : (c : tie.After-pick-leaving invariant_loop decreases_loop) → 0 < c.pick-leaving.result
+    → pick_of c.args.store.now c.loop-l.l ≡ suc (c.pick-leaving.result - 1)
 row c h =
-    let s = start c.before.before in
-    a_row_lem _ s.pre.0 _ s.pre.1.0 _ _ (inside c.before) c.pick.ensures h
+    a_row_lem _ c.requires.0 _ c.requires.1.0 _ _ (inside c.before) c.pick-leaving.ensures h
 
-sub_advance : tie.Need-overflow-sub-advance invariant_loop decreases_loop
+sub_advance : tie.Need-overflow_sub-leaving invariant_loop decreases_loop
 sub_advance c = omega arith
 
 advance_requires : tie.Need-advance-requires invariant_loop decreases_loop
 advance_requires c κs =
-    let p = c.before.before in
-    let a = p.before.before in
-    moving_ready _ (start a).requires.0 _ _ a.loop.invariant (inside p.before) _ (row p (omega arith))
+    moving_ready _ c.requires.0 _ _ c.loop-l.invariant (inside c.before.before.before) _ (row c.before.before (omega arith))
 
-add_l : tie.Need-overflow-add-l invariant_loop decreases_loop
+add_l : tie.Need-overflow_add-l invariant_loop decreases_loop
 add_l c = omega arith
 
-loop_less : tie.Need-loop-smaller invariant_loop decreases_loop
+loop_less : tie.Need-loop-l-smaller invariant_loop decreases_loop
 loop_less c = omega arith
 
-loop_again : tie.Need-loop-preserved invariant_loop decreases_loop
+loop_again : tie.Need-loop-l-preserved invariant_loop decreases_loop
 loop_again c =
-    let p = c.before in
-    let a = p.before.before in
-    let sound = (start a).requires.0 in
-    let inv = a.loop.invariant in
+    let sound = c.requires.0 in
+    let inv = c.loop-l.invariant in
     ⊎_elim
-    (λ v. rw v.5 (moving_more _ sound _ _ inv (inside p.before) _ (row p (omega (arith, v.0.taken))) _ v.2.ensures))
-    (λ v. rw v.1 (moving_pass _ sound _ _ inv (inside p.before) (none p (omega (arith, v.0.left)))))
-    c.if1.branch
+    (λ v. rw v.5 (moving_more _ sound _ _ inv (inside c.before.before) _ (row c.before (omega (arith, v.0.taken))) _ v.2.ensures))
+    (λ v. rw v.1 (moving_pass _ sound _ _ inv (inside c.before.before) (none c.before (omega (arith, v.0.left)))))
+    c.if-leaving-gt0.branch
 
-add_put_clock : tie.Need-overflow-add-put-clock invariant_loop decreases_loop
+add_put_clock : tie.Need-overflow_add-slot invariant_loop decreases_loop
 add_put_clock c = omega arith
 
-put_clock_requires : tie.Need-put-clock-requires invariant_loop decreases_loop
+put_clock_requires : tie.Need-put_clock-requires invariant_loop decreases_loop
 put_clock_requires c κs =
-    let a = c.before.before in
-    moving_long _ (start a).requires.0 _ _ a.loop.invariant
+    moving_long _ c.requires.0 _ _ c.loop-l.invariant
 
-same_length : tie.Need-same-length invariant_loop decreases_loop
+same_length : tie.Need-shape_of-store invariant_loop decreases_loop
 same_length c =
-    let a = c.before.before.before.before.before in
-    moving_length _ (start a).requires.0 _ _ a.loop.invariant _ _ c.before.before.put_clock.ensures
+    moving_length _ c.requires.0 _ _ c.loop-l.invariant _ _ c.put_clock.ensures
 
 returns : tie.Need-returns invariant_loop decreases_loop
 returns c =
-    let k = c.before.before in
-    let a = k.before.before.before in
-    k.put_clock.ensures ∙ moving_done _ (start a).requires.0 _ _ a.loop.invariant (omega arith) _ a.before.clock.ensures
+    c.put_clock.ensures ∙ moving_done _ c.requires.0 _ _ c.loop-l.invariant (omega arith) _ c.clock-slot.ensures
 
 pub move_on_spec : {M : Type 1} → statement M
-move_on_spec =
-    tie.close
-    (tie.spec
-    invariant_loop
-    decreases_loop
-    links_requires
-    clock_requires
-    loop_holds
-    pick_requires
-    sub_advance
-    advance_requires
-    add_l
-    loop_less
-    loop_again
-    add_put_clock
-    put_clock_requires
-    same_length
-    returns)
+move_on_spec = tie.close (tie.spec invariant_loop decreases_loop links_requires clock_requires loop_holds pick_requires sub_advance advance_requires add_l loop_less loop_again add_put_clock put_clock_requires same_length returns)

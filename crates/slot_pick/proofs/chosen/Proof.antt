@@ -5,41 +5,36 @@ use Rattle.slot_pick.proofs.Steps.{chosen_due, chosen_none, chosen_near, chosen_
 use Rattle.slot_pick.proofs.chosen.Statement.{statement}
 use Rattle.slot_pick.proofs.chosen.Tie as tie
 
-returns : tie.Need-returns
-returns c = chosen_due _ _ _ c.before.before.args.soon c.if1.true
+returns : tie.Need-returns-then-due-gt0
+returns c = chosen_due _ _ _ c.args.soon c.if-due-gt0.true
 
-returns_2 : tie.Need-returns-2
-returns_2 c = chosen_none _ _ _ _ c.before.if1.false c.if2.true
+returns_2 : tie.Need-returns-then-soon-eq0
+returns_2 c = chosen_none _ _ _ _ c.if-due-gt0.false c.if-soon-eq0.true
 
 clock_requires : tie.Need-clock-requires
 clock_requires c κs =
-    let (e, (h, t)) = c.before.before.before.requires in
+    let (e, (h, t)) = c.requires in
     (link_ready _ e _ h).0
 
 horizon_requires : tie.Need-horizon-requires
 horizon_requires c κs =
-    let (e, (h, t)) = c.before.before.before.before.requires in
+    let (e, (h, t)) = c.requires in
     link_ready _ e _ h
 
-add_last : tie.Need-overflow-add-last
+add_last : tie.Need-overflow_add-last
 add_last c =
-    let (e, (h, t)) = c.before.before.before.before.before.requires in
-    last_fits _ e _ h c.before.clock.ensures c.horizon.ensures
+    let (e, (h, t)) = c.requires in
+    last_fits _ e _ h c.clock.ensures c.horizon.ensures
 
-returns_3 : tie.Need-returns-3
+returns_3 : tie.Need-returns-then-least-last
 returns_3 c =
-    let n = c.before.before in
-    let z = n.before in
-    let (e, (h, t)) = z.before.before.before.requires in
-    chosen_near _ _ n.clock.ensures c.before.horizon.ensures _ _ t z.before.if1.false z.if2.false c.if3.true
+    let (e, (h, t)) = c.requires in
+    chosen_near _ _ c.clock.ensures c.horizon.ensures _ _ t c.if-due-gt0.false c.if-soon-eq0.false c.if-least-last.true
 
-returns_4 : tie.Need-returns-4
+returns_4 : tie.Need-returns
 returns_4 c =
-    let n = c.before.before in
-    let z = n.before in
-    let (e, (h, t)) = z.before.before.before.requires in
-    chosen_far _ _ n.clock.ensures c.before.horizon.ensures _ _ t z.before.if1.false c.if3.false
+    let (e, (h, t)) = c.requires in
+    chosen_far _ _ c.clock.ensures c.horizon.ensures _ _ t c.if-due-gt0.false c.if-least-last.false
 
 pub chosen_spec : {M : Type 1} → statement M
-chosen_spec =
-    tie.close (tie.spec returns returns_2 clock_requires horizon_requires add_last returns_3 returns_4)
+chosen_spec = tie.close (tie.spec returns returns_2 clock_requires horizon_requires add_last returns_3 returns_4)

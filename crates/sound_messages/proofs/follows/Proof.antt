@@ -7,77 +7,53 @@ use borrow.Author.Rules.{rules}
 use Rattle.sound_messages.proofs.follows.Statement.{statement}
 use Rattle.sound_messages.proofs.follows.Tie as tie
 
-abbrev start : tie.After-end-in2 → tie.Start
-start e = e.before.before.before
+abbrev w : tie.After-end_in-end → Store
+w e = e.args.store.now
 
-abbrev w : tie.After-end-in2 → Store
-w e = (start e).args.store.now
-
-abbrev channel : tie.After-end-in2 → ℕ
-channel e = (start e).args.x
+abbrev channel : tie.After-end_in-end → ℕ
+channel e = e.args.x
 
 -- the message at `before`, by its place, and where the one after it ends
-abbrev n : tie.After-end-in2 → ℕ
-n e = (start e).args.before
+abbrev n : tie.After-end_in-end → ℕ
+n e = e.args.before
 
-end : (e : tie.After-end-in2) → e.end_in2.result ≡ end_of (w e) (channel e) (n e + 1)
-end e = end_is (w e) (channel e) (n e) _ (start e).requires.1.1.1.0 _ e.end_in2.ensures
+end : (e : tie.After-end_in-end) → e.end_in-end.result ≡ end_of (w e) (channel e) (n e + 1)
+end e = end_is (w e) (channel e) (n e) _ e.requires.1.1.1.0 _ e.end_in-end.ensures
 
-end_in_requires : tie.Need-end-in-requires
+end_in_requires : tie.Need-end_in-start-requires
 end_in_requires c κs = search rules
 
-end_in_requires_2 : tie.Need-end-in-requires-2
+end_in_requires_2 : tie.Need-end_in-end-requires
 end_in_requires_2 c κs = search rules
 
-returns : tie.Need-returns
+returns : tie.Need-returns-then-end-start
 returns c =
-    let e = c.before in
-    follows_empty (w e) (channel e) (n e) _ _ e.before.end_in.ensures (end e) c.if1.true
+    follows_empty (w c.before) (channel c.before) (n c.before) _ _ c.end_in-start.ensures (end c.before) c.if-end-start.true
 
-sub_if2 : tie.Need-overflow-sub-if2
+sub_if2 : tie.Need-overflow_sub-end
 sub_if2 c = search rules
 
 c_requires : tie.Need-c-requires
 c_requires c κs = search rules
 
-returns_2 : tie.Need-returns-2
+returns_2 : tie.Need-returns-then-end-start-2
 returns_2 c =
-    let i = c.before.before in
-    let e = i.before in
-    follows_long (w e) (channel e) (n e) _ _ e.before.end_in.ensures (end e) _ c.before.c.ensures i.if1.false
-    c.if2.true
+    follows_long (w c.before.before.before) (channel c.before.before.before) (n c.before.before.before) _ _ c.end_in-start.ensures (end c.before.before.before) _ c.c.ensures c.if-end-start.false
+    c.if-end-start-2.true
 
-returns_3 : tie.Need-returns-3
+returns_3 : tie.Need-returns-then-start-sent
 returns_3 c =
-    let k = c.before.before in
-    let i = k.before in
-    let e = i.before in
-    follows_delivered (w e) (channel e) (n e) _ _ e.before.end_in.ensures (end e) _ _ k.c.ensures
-    (start e).requires.1.1.1.1 i.if1.false c.before.if2.false c.if3.true
+    follows_delivered (w c.before.before.before.before) (channel c.before.before.before.before) (n c.before.before.before.before) _ _ c.end_in-start.ensures (end c.before.before.before.before) _ _ c.c.ensures
+    c.requires.1.1.1.1 c.if-end-start.false c.if-end-start-2.false c.if-start-sent.true
 
-is_apart_requires : tie.Need-is-apart-requires
+is_apart_requires : tie.Need-is_apart-requires
 is_apart_requires c κs = search rules
 
-returns_4 : tie.Need-returns-4
+returns_4 : tie.Need-returns
 returns_4 c =
-    let t = c.before in
-    let k = t.before.before in
-    let i = k.before in
-    let e = i.before in
-    let r = apart_is (w e) (channel e) (n e) _ (start e).requires.1.1.1.0 _ c.is_apart.ensures in
-    follows_apart (w e) (channel e) (n e) _ _ e.before.end_in.ensures (end e) _ _ k.c.ensures
-    (start e).requires.1.1.1.1 i.if1.false t.before.if2.false t.if3.false _ r
+    let r = apart_is (w c.before.before.before.before.before) (channel c.before.before.before.before.before) (n c.before.before.before.before.before) _ c.requires.1.1.1.0 _ c.is_apart.ensures in
+    follows_apart (w c.before.before.before.before.before) (channel c.before.before.before.before.before) (n c.before.before.before.before.before) _ _ c.end_in-start.ensures (end c.before.before.before.before.before) _ _ c.c.ensures
+    c.requires.1.1.1.1 c.if-end-start.false c.if-end-start-2.false c.if-start-sent.false _ r
 
 pub follows_spec : {M : Type 1} → statement M
-follows_spec =
-    tie.close
-    (tie.spec
-    end_in_requires
-    end_in_requires_2
-    returns
-    sub_if2
-    c_requires
-    returns_2
-    returns_3
-    is_apart_requires
-    returns_4)
+follows_spec = tie.close (tie.spec end_in_requires end_in_requires_2 returns sub_if2 c_requires returns_2 returns_3 is_apart_requires returns_4)
