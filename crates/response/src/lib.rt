@@ -12,7 +12,7 @@ ghost use Rattle.response.specs.Alone.{askable_on, alone_on};
 use kinds::{Channel, Link};
 
 // A row of a link's table: at most `c` packets every `p` slots, each message through within `delay` slots.
-#[derive(Drop)]
+#[derive(Clone, Copy)]
 pub struct Row {
     pub c: u64,
     pub p: u64,
