@@ -73,7 +73,7 @@ impl Link {
 
 // What a stream asks for: at most `c` packets a message, messages at least `p` slots apart, each through all links within `d`
 // slots, in bursts of at most `b` messages.
-#[derive(Drop)]
+#[derive(Clone, Copy)]
 pub struct Channel {
     pub c: u64,
     pub p: u64,

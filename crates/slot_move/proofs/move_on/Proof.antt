@@ -1,7 +1,6 @@
 -- `slot_move::move_on` meets its contract: the packets of the links passed have moved on.
 use Prim.Native.Nat.{suc, ◌-◌, ◌≤◌, ◌<◌}
 use mathlib.Core.Path.{◌≡◌, ◌∙◌}
-use mathlib.Core.Logic.{⊎_elim}
 use native.Mathlib.Omega.{arith}
 use Rattle.store.specs.Layout.{links_of}
 use Rattle.store.proofs.Laws.Sound.{sound_is}
@@ -10,6 +9,7 @@ use Rattle.slot_move.proofs.Rows.{no_row, a_row_lem}
 use Rattle.slot_move.proofs.Moves.{Moving, moving_none, moving_pass, moving_ready, moving_more, moving_long, moving_length}
 use Rattle.slot_move.proofs.Moves.{moving_done}
 use Rattle.slot_move.proofs.move_on.Statement.{statement}
+use Rattle.slot_move.proofs.move_on.Lts.{then-leaving-gt0, else-leaving-gt0}
 use Rattle.slot_move.proofs.move_on.Tie as tie
 
 abbrev invariant_loop : tie.invariant-loop-l
@@ -61,10 +61,13 @@ loop_again : tie.Need-loop-l-preserved invariant_loop decreases_loop
 loop_again c =
     let sound = c.requires.0 in
     let inv = c.loop-l.invariant in
-    ⊎_elim
-    (λ v. rw v.5 (moving_more _ sound _ _ inv (inside c.before.before) _ (row c.before (omega (arith, v.0.taken))) _ v.2.ensures))
-    (λ v. rw v.1 (moving_pass _ sound _ _ inv (inside c.before.before) (none c.before (omega (arith, v.0.left)))))
-    c.if-leaving-gt0.branch
+    elim c.if-leaving-gt0.branch [
+      | then-leaving-gt0 w ↦
+          rw w.store-is
+          (moving_more _ sound _ _ inv (inside c.before.before) _ (row c.before (omega (arith, w.if-leaving-gt0.true))) _ w.advance.ensures)
+      | else-leaving-gt0 w ↦
+          rw w.store-is (moving_pass _ sound _ _ inv (inside c.before.before) (none c.before (omega (arith, w.if-leaving-gt0.false))))
+    ]
 
 add_put_clock : tie.Need-overflow_add-slot invariant_loop decreases_loop
 add_put_clock c = omega arith

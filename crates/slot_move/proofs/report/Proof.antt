@@ -1,7 +1,6 @@
 -- `slot_move::report` meets its contract: the sends of the links passed stand at the front of the output.
 use Prim.Native.Nat.{suc, ◌-◌, ◌≤◌, ◌<◌}
 use mathlib.Core.Path.{◌≡◌, refl}
-use mathlib.Core.Logic.{⊎_elim}
 use native.Mathlib.Omega.{arith}
 use Rattle.store.specs.Layout.{links_of}
 use Rattle.store.proofs.Laws.Sound.{sound_is}
@@ -10,6 +9,7 @@ use Rattle.slot_move.proofs.Rows.{no_row, a_row_lem}
 use Rattle.slot_move.proofs.Sends.{Sending, sending_none, sending_pass, sending_more, sending_few, sending_size}
 use Rattle.slot_move.proofs.Sends.{sending_done}
 use Rattle.slot_move.proofs.report.Statement.{statement}
+use Rattle.slot_move.proofs.report.Lts.{then-position-gt0, else-position-gt0}
 use Rattle.slot_move.proofs.report.Tie as tie
 
 abbrev invariant_loop : tie.invariant-loop-l
@@ -68,10 +68,13 @@ loop_again : tie.Need-loop-l-preserved invariant_loop decreases_loop
 loop_again c =
     let inv = c.loop-l.invariant in
     let more = sending_more _ _ _ _ _ inv c.requires.1.1 (inside c.before.before) in
-    ⊎_elim
-    (λ v. rw (v.5, v.6) (more _ (row c.before (omega (arith, v.0.taken))) _ refl _ v.2.ensures))
-    (λ v. rw (v.1, v.2) (sending_pass _ _ _ _ _ inv (inside c.before.before) (none c.before (omega (arith, v.0.left)))))
-    c.if-position-gt0.branch
+    elim c.if-position-gt0.branch [
+      | then-position-gt0 w ↦
+          rw (w.out-is, w.n-is) (more _ (row c.before (omega (arith, w.if-position-gt0.true))) _ refl _ w.put_send.ensures)
+      | else-position-gt0 w ↦
+          rw (w.out-is, w.n-is)
+          (sending_pass _ _ _ _ _ inv (inside c.before.before) (none c.before (omega (arith, w.if-position-gt0.false))))
+    ]
 
 same_length : tie.Need-shape_of-out invariant_loop decreases_loop
 same_length c = sending_size _ _ _ _ _ c.loop-l.invariant c.requires.1.1
