@@ -3,65 +3,67 @@
 // step has put into the buffer is written out. docs/SCRIPT.md is the operator's reference.
 #![tactic(auto)]
 
-use libc::{STDERR_FILENO, STDIN_FILENO, STDOUT_FILENO};
 use script_listing::BUFFER;
 use script_play::LINKS;
 use script_run::{After, Run, Wants};
+use std::io;
+use std::io::Read;
 use text_lines::KEPT;
+
+// So many bytes are read at a time.
+const CHUNK: usize = 65_536;
 
 // Plays a chunk, step by step. An empty one is the end of the input.
 fn play(
+    rt: &impl Print,
     store: &mut [u64; store::LENGTH],
     links: &mut [u64; LINKS],
     text: &mut [u8; KEPT],
     chunk: &[u8],
     run: Run,
     out: &mut [u8; BUFFER],
-) -> After {
+) -> io::Result<After> {
     let mut before = run;
     loop {
         let after = script_run::step(store, links, text, chunk, before, out);
         before = after.run;
         let end = before.at;
         let part: &[u8] = out;
-        io::write_all(STDOUT_FILENO, &part[..end]);
+        rt.write_all(&part[..end])?;
         let wants = after.wants;
         let Wants::Room = wants else {
-            return after;
+            return Ok(after);
         };
     }
 }
 
-// A proved loop has to end, and nothing says that the input does: so the reads are counted, down from a number that no run uses
+// A proved loop has to end, and nothing says that the input does: so the reads are counted, up to a number that no run uses
 // up. A read that fails is not the end of the input.
-fn main() {
+fn main(rt: HostRuntime) -> io::Result<()> {
     let mut store = [0u64; store::LENGTH];
     let mut links = [0u64; LINKS];
     let mut text = [0u8; KEPT];
     let mut out = [0u8; BUFFER];
-    let mut input = io::large_buffer();
+    let mut input = [0u8; CHUNK];
     let mut run = script_run::start();
-    let mut reads: u64 = 18_446_744_073_709_551_615;
-    while reads > 0 {
-        let got = libc::read(STDIN_FILENO, &mut input);
-        if got < 0 {
-            io::write_all(STDERR_FILENO, b"roomrun: standard input cannot be read\n");
-            return;
-        }
-        let n = io::count(got, &input);
+    for _ in 0..u64::MAX {
+        let Ok(n) = rt.stdin().read(&mut input) else {
+            return eprintln!(rt; "roomrun: standard input cannot be read");
+        };
         let after = play(
+            &rt,
             &mut store,
             &mut links,
             &mut text,
             &input[..n],
             run,
             &mut out,
-        );
+        )?;
         let wants = after.wants;
         let Wants::Chunk = wants else {
-            return;
+            return Ok(());
         };
         run = after.run;
-        reads -= 1;
     }
+    Ok(())
 }

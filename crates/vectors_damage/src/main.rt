@@ -8,18 +8,10 @@ ghost use Rattle.std.specs.Prelude.{◌<◌};
 ghost use Rattle.kinds.specs.Ranges.{most_links, most_channels, most_hops, most_rows};
 ghost use Rattle.store.specs.Layout.{Long};
 
-use libc::STDOUT_FILENO;
+use std::io;
 use store::{channel, head, link};
 
 const LARGEST: u64 = 18_446_744_073_709_551_615;
-
-fn print(text: &[u8]) {
-    io::write_all(STDOUT_FILENO, text);
-}
-
-fn print_number(n: u64) {
-    io::print_decimal(STDOUT_FILENO, n);
-}
 
 // A channel's numbers.
 fn put_numbers(store: &mut [u64], x: usize, packets: u64, p: u64, d: u64, b: u64)
@@ -131,23 +123,31 @@ fn is_sound_with(store: &mut [u64], at: usize, value: u64) -> bool {
     sound
 }
 
-fn print_verdict(sound: bool) {
+fn print_verdict(rt: &impl Print, sound: bool) -> io::Result<()> {
     if sound {
-        print(b" +");
+        rt.write_all(b" +")
     } else {
-        print(b" -");
+        rt.write_all(b" -")
     }
 }
 
-fn print_line(at: usize, value: u64, more: bool, less: bool, zero: bool, largest: bool) {
-    print_number(at as u64);
-    print(b" ");
-    print_number(value);
-    print_verdict(more);
-    print_verdict(less);
-    print_verdict(zero);
-    print_verdict(largest);
-    print(b"\n");
+fn print_line(
+    rt: &impl Print,
+    at: usize,
+    value: u64,
+    more: bool,
+    less: bool,
+    zero: bool,
+    largest: bool,
+) -> io::Result<()> {
+    rt.print(at as u64)?;
+    rt.write_all(b" ")?;
+    rt.print(value)?;
+    print_verdict(rt, more)?;
+    print_verdict(rt, less)?;
+    print_verdict(rt, zero)?;
+    print_verdict(rt, largest)?;
+    rt.write_all(b"\n")
 }
 
 fn one_more(n: u64) -> u64 {
@@ -159,9 +159,9 @@ fn one_less(n: u64) -> u64 {
 }
 
 // Damages one number, and prints its line if that can be seen.
-fn damage(store: &mut [u64], at: usize) -> bool {
+fn damage(rt: &impl Print, store: &mut [u64], at: usize) -> io::Result<bool> {
     if at >= store.len() {
-        return false;
+        return Ok(false);
     }
     let value = store[at];
     let more = is_sound_with(store, at, one_more(value));
@@ -169,39 +169,39 @@ fn damage(store: &mut [u64], at: usize) -> bool {
     let zero = is_sound_with(store, at, 0);
     let largest = is_sound_with(store, at, LARGEST);
     if more && (less && (zero && largest)) {
-        return false;
+        return Ok(false);
     }
-    print_line(at, value, more, less, zero, largest);
-    true
+    print_line(rt, at, value, more, less, zero, largest)?;
+    Ok(true)
 }
 
 // Damages every number, and returns how many of them matter.
-fn damage_all(store: &mut [u64]) -> u64 {
+fn damage_all(rt: &impl Print, store: &mut [u64]) -> io::Result<u64> {
     let mut matter: u64 = 0;
     let mut at: usize = 0;
     while at < store.len() {
-        if damage(store, at) {
+        if damage(rt, store, at)? {
             matter += 1;
         }
         at += 1;
     }
-    matter
+    Ok(matter)
 }
 
-fn show(store: &mut [u64]) {
-    print(b"sound");
-    print_verdict(sound::is_sound(store));
-    print(b"\n");
-    let matter = damage_all(store);
-    print(b"numbers that matter ");
-    print_number(matter);
-    print(b"\n");
+fn show(rt: &impl Print, store: &mut [u64]) -> io::Result<()> {
+    rt.write_all(b"sound")?;
+    print_verdict(rt, sound::is_sound(store))?;
+    rt.write_all(b"\n")?;
+    let matter = damage_all(rt, store)?;
+    rt.write_all(b"numbers that matter ")?;
+    rt.print(matter)?;
+    rt.write_all(b"\n")
 }
 
-fn main() {
+fn main(rt: HostRuntime) -> io::Result<()> {
     let mut store = [0u64; store::LENGTH];
     let _answer = setup::set_up(&mut store, &[0, 1, 0, 64, 1, 2, 0, 64]);
-    show(&mut store);
+    show(&rt, &mut store)?;
     fill(&mut store);
-    show(&mut store);
+    show(&rt, &mut store)
 }

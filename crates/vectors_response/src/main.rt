@@ -5,78 +5,75 @@
 ghost use Rattle.std.specs.Prelude.{◌≤◌};
 
 use kinds::Link;
-use libc::STDOUT_FILENO;
 use response::{Answer, Reply, Row};
+use std::io;
 
-fn print(text: &[u8]) {
-    io::write_all(STDOUT_FILENO, text);
+fn print_number(rt: &impl Print, label: &[u8], n: u64) -> io::Result<()> {
+    rt.write_all(label)?;
+    rt.print(n)
 }
 
-fn print_number(label: &[u8], n: u64) {
-    print(label);
-    io::print_decimal(STDOUT_FILENO, n);
+fn print_next(rt: &impl Print, n: u64) -> io::Result<()> {
+    print_number(rt, b" ", n)
 }
 
-fn print_next(n: u64) {
-    print_number(b" ", n);
-}
-
-fn print_all(table: &[u64]) {
-    for i in 0..table.len() {
-        print_next(table[i]);
+fn print_all(rt: &impl Print, table: &[u64]) -> io::Result<()> {
+    for n in table {
+        print_next(rt, *n)?;
     }
+    Ok(())
 }
 
-fn print_answer(answer: Answer) {
+fn print_answer(rt: &impl Print, answer: Answer) -> io::Result<()> {
     match answer {
         Answer::Found(r, trials) => {
-            print_number(b" : response ", r);
-            print_number(b" trials ", trials);
+            print_number(rt, b" : response ", r)?;
+            print_number(rt, b" trials ", trials)
         }
-        Answer::Nothing(trials) => print_number(b" : none trials ", trials),
+        Answer::Nothing(trials) => print_number(rt, b" : none trials ", trials),
     }
 }
 
-fn print_reply(reply: Reply) {
+fn print_reply(rt: &impl Print, reply: Reply) -> io::Result<()> {
     match reply {
-        Reply::Answered(answer) => print_answer(answer),
+        Reply::Answered(answer) => print_answer(rt, answer),
         Reply::Refused(number, place) => {
-            print_number(b" : refused ", number);
-            print_next(place);
+            print_number(rt, b" : refused ", number)?;
+            print_next(rt, place)
         }
     }
 }
 
 // One line: the question and its answer.
-fn work(table: &[u64], own: u64, limit: u64) {
-    print_number(b"own ", own);
-    print_number(b" limit ", limit);
-    print(b" table");
-    print_all(table);
-    print_reply(response::response_alone(table, own, limit));
-    print(b"\n");
+fn work(rt: &impl Print, table: &[u64], own: u64, limit: u64) -> io::Result<()> {
+    print_number(rt, b"own ", own)?;
+    print_number(rt, b" limit ", limit)?;
+    rt.write_all(b" table")?;
+    print_all(rt, table)?;
+    print_reply(rt, response::response_alone(table, own, limit))?;
+    rt.write_all(b"\n")
 }
 
 // Document 01's figures: 6, 7, 9, 10, 10 is the first, and no limit below 10 lets it through.
-fn figures() {
-    work(&[1, 4, 2, 2, 6, 3], 3, 10);
-    work(&[1, 4, 2, 2, 6, 3], 3, 9);
-    work(&[1, 4, 2, 2, 6, 3], 3, 6);
-    work(&[1, 4, 2, 2, 6, 3], 3, 5);
-    work(&[1, 2, 2], 1, 2);
-    work(&[1, 2, 2], 1, 1);
-    work(&[1, 2, 2, 1, 2, 2], 1, 2);
-    work(&[1, 2, 2, 1, 2, 2], 1, 60_000);
+fn figures(rt: &impl Print) -> io::Result<()> {
+    work(rt, &[1, 4, 2, 2, 6, 3], 3, 10)?;
+    work(rt, &[1, 4, 2, 2, 6, 3], 3, 9)?;
+    work(rt, &[1, 4, 2, 2, 6, 3], 3, 6)?;
+    work(rt, &[1, 4, 2, 2, 6, 3], 3, 5)?;
+    work(rt, &[1, 2, 2], 1, 2)?;
+    work(rt, &[1, 2, 2], 1, 1)?;
+    work(rt, &[1, 2, 2, 1, 2, 2], 1, 2)?;
+    work(rt, &[1, 2, 2, 1, 2, 2], 1, 60_000)
 }
 
-fn print_row(row: Row) {
-    print_next(row.c);
-    print_next(row.p);
-    print_next(row.delay);
+fn print_row(rt: &impl Print, row: Row) -> io::Result<()> {
+    print_next(rt, row.c)?;
+    print_next(rt, row.p)?;
+    print_next(rt, row.delay)
 }
 
 // The same figure asked for in the table form: an array of rows, two of them in use.
-fn figure_in_rows() {
+fn figure_in_rows(rt: &impl Print) -> io::Result<()> {
     let mut rows = [Row {
         c: 1,
         p: 4,
@@ -87,31 +84,36 @@ fn figure_in_rows() {
         p: 6,
         delay: 3,
     };
-    print_number(b"own ", 3);
-    print_number(b" limit ", 10);
-    print(b" table");
-    print_row(rows[0]);
-    print_row(rows[1]);
-    print_reply(response_table::response_of_table(rows, 2, 3, 10));
-    print(b"\n");
+    print_number(rt, b"own ", 3)?;
+    print_number(rt, b" limit ", 10)?;
+    rt.write_all(b" table")?;
+    print_row(rt, rows[0])?;
+    print_row(rt, rows[1])?;
+    print_reply(rt, response_table::response_of_table(rows, 2, 3, 10))?;
+    rt.write_all(b"\n")
 }
 
 // No row above, one row, a few rows.
-fn small_links() {
-    work(&[], 1, 1);
-    work(&[], 200, 200);
-    work(&[], 200, 199);
-    work(&[200, 60_000, 60_000], 1, 60_000);
-    work(&[200, 200, 200], 200, 60_000);
-    work(&[200, 201, 201], 200, 60_000);
-    work(&[1, 3, 3, 1, 5, 5, 1, 7, 7], 5, 100);
-    work(&[1, 3, 3, 1, 5, 5, 2, 7, 7], 5, 100);
-    work(&[3, 20, 20, 5, 30, 30, 8, 50, 50, 2, 11, 11], 7, 500);
-    work(&[12, 100, 0, 34, 300, 18_446_744_073_709_551_615], 17, 777);
+fn small_links(rt: &impl Print) -> io::Result<()> {
+    work(rt, &[], 1, 1)?;
+    work(rt, &[], 200, 200)?;
+    work(rt, &[], 200, 199)?;
+    work(rt, &[200, 60_000, 60_000], 1, 60_000)?;
+    work(rt, &[200, 200, 200], 200, 60_000)?;
+    work(rt, &[200, 201, 201], 200, 60_000)?;
+    work(rt, &[1, 3, 3, 1, 5, 5, 1, 7, 7], 5, 100)?;
+    work(rt, &[1, 3, 3, 1, 5, 5, 2, 7, 7], 5, 100)?;
+    work(rt, &[3, 20, 20, 5, 30, 30, 8, 50, 50, 2, 11, 11], 7, 500)?;
+    work(
+        rt,
+        &[12, 100, 0, 34, 300, 18_446_744_073_709_551_615],
+        17,
+        777,
+    )
 }
 
 // As many equal rows as asked for, at most 33, above a channel with one packet.
-fn equal_rows(rows: usize, c: u64, p: u64)
+fn equal_rows(rt: &impl Print, rows: usize, c: u64, p: u64) -> io::Result<()>
     requires { rows ≤ 33 }
 {
     let mut table = [0u64; 3 * Link::MOST_ROWS + 3];
@@ -122,39 +124,44 @@ fn equal_rows(rows: usize, c: u64, p: u64)
         table[at + 2] = p;
         at += 3;
     }
-    work(&table[..3 * rows], 1, 60_000);
+    work(rt, &table[..3 * rows], 1, 60_000)
 }
 
 // Full tables: lightly loaded, nearly full, full, over full; and one row too many.
-fn full_links() {
-    equal_rows(32, 1, 64);
-    equal_rows(32, 1, 33);
-    equal_rows(32, 1, 32);
-    equal_rows(32, 200, 60_000);
-    equal_rows(32, 200, 6_600);
-    equal_rows(32, 200, 6_400);
-    equal_rows(33, 1, 60_000);
+fn full_links(rt: &impl Print) -> io::Result<()> {
+    equal_rows(rt, 32, 1, 64)?;
+    equal_rows(rt, 32, 1, 33)?;
+    equal_rows(rt, 32, 1, 32)?;
+    equal_rows(rt, 32, 200, 60_000)?;
+    equal_rows(rt, 32, 200, 6_600)?;
+    equal_rows(rt, 32, 200, 6_400)?;
+    equal_rows(rt, 33, 1, 60_000)
 }
 
 // One number out of range each, and tables that end within a row.
-fn refusals() {
-    work(&[1, 4, 2, 2, 6, 3], 0, 10);
-    work(&[1, 4, 2, 2, 6, 3], 201, 10);
-    work(&[1, 4, 2, 2, 6, 3], 3, 0);
-    work(&[1, 4, 2, 2, 6, 3], 3, 60_001);
-    work(&[0, 4, 2, 2, 6, 3], 3, 10);
-    work(&[1, 4, 2, 201, 6, 3], 3, 10);
-    work(&[1, 0, 2, 2, 6, 3], 3, 10);
-    work(&[1, 4, 2, 2, 60_001, 3], 3, 10);
-    work(&[1, 4], 3, 10);
-    work(&[1, 4, 2, 2], 3, 10);
-    work(&[], 18_446_744_073_709_551_615, 18_446_744_073_709_551_615);
+fn refusals(rt: &impl Print) -> io::Result<()> {
+    work(rt, &[1, 4, 2, 2, 6, 3], 0, 10)?;
+    work(rt, &[1, 4, 2, 2, 6, 3], 201, 10)?;
+    work(rt, &[1, 4, 2, 2, 6, 3], 3, 0)?;
+    work(rt, &[1, 4, 2, 2, 6, 3], 3, 60_001)?;
+    work(rt, &[0, 4, 2, 2, 6, 3], 3, 10)?;
+    work(rt, &[1, 4, 2, 201, 6, 3], 3, 10)?;
+    work(rt, &[1, 0, 2, 2, 6, 3], 3, 10)?;
+    work(rt, &[1, 4, 2, 2, 60_001, 3], 3, 10)?;
+    work(rt, &[1, 4], 3, 10)?;
+    work(rt, &[1, 4, 2, 2], 3, 10)?;
+    work(
+        rt,
+        &[],
+        18_446_744_073_709_551_615,
+        18_446_744_073_709_551_615,
+    )
 }
 
-fn main() {
-    figures();
-    figure_in_rows();
-    small_links();
-    full_links();
-    refusals();
+fn main(rt: HostRuntime) -> io::Result<()> {
+    figures(&rt)?;
+    figure_in_rows(&rt)?;
+    small_links(&rt)?;
+    full_links(&rt)?;
+    refusals(&rt)
 }

@@ -20,7 +20,7 @@ write_requires c κs = simp length-set (omega arith)
 
 put : (c : tie.After-write)
     → Putting c.args.out.now c.args.at (c.args.byte ∷ decimal c.args.n)
-    c.write.new.0 c.write.result
+    c.write.new.out c.write.result
 put c = number_put _ _ _ _ c.requires _ _ c.write.ensures.1 c.write.ensures.0
 
 same_length : tie.Need-shape_of-out

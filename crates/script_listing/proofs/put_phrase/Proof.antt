@@ -22,7 +22,7 @@ put_text_requires c κs = omega arith
 -- the numbers have room behind the word
 room : (c : tie.After-slice_known-2-1 invariant_loop decreases_loop)
     → c.put_text-end.result + 21 * length c.args.numbers.now
-    ≤ length c.put_text-end.new.0
+    ≤ length c.put_text-end.new.out
 room c = omega (arith, c.put_text-end.ensures.0)
 
 loop_holds : tie.Need-loop-i-init invariant_loop decreases_loop

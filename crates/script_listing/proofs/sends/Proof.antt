@@ -9,10 +9,10 @@ use Rattle.script_listing.proofs.sends.Statement.{statement}
 use Rattle.script_listing.proofs.sends.Tie as tie
 
 abbrev invariant_loop : tie.invariant-loop-i
-invariant_loop out₀ at numbers count end₀ i₀ t9 out end i = (i ≤ count) × Putting out₀ at (send_lines_in numbers i) out end
+invariant_loop out₀ at numbers count end₀ i₀ out end i = (i ≤ count) × Putting out₀ at (send_lines_in numbers i) out end
 
 abbrev decreases_loop : tie.decreases-loop-i
-decreases_loop out₀ at numbers count end₀ i₀ t9 out end i = count - i
+decreases_loop out₀ at numbers count end₀ i₀ out end i = count - i
 
 loop_holds : tie.Need-loop-i-init invariant_loop decreases_loop
 loop_holds c = (omega arith, sends_none _ _ _ _ c.requires.1)

@@ -7,7 +7,6 @@ use mathlib.Core.List.{List}
 use native.Mathlib.Omega.{arith}
 use lib.ListN.{length}
 use borrow.Author.Rules.{rules}
-use borrow.Author.Tests.{not-true, not-false}
 use Rattle.kinds.specs.Ranges.{in_range_links, most_links}
 use Rattle.kinds.proofs.Laws.{within_true}
 use Rattle.setup_list.specs.List.{links_in, links_pass}
@@ -25,7 +24,7 @@ numbers c = c.args.links.now
 fit : (c : tie.Else-not-links_fit) → in_range_links (links_in (numbers c.before.before)) ≡ true
 fit c =
     ap in_range_links (sym c.links_in-n.ensures)
-    ∙ (sym c.links_fit.ensures ∙ not-false _ c.if-not-links_fit.false)
+    ∙ (sym c.links_fit.ensures ∙ c.if-not-links_fit.false)
 
 few : (c : tie.Else-not-links_fit) → c.links_in-n.result ≤ most_links
 few c =
@@ -56,7 +55,7 @@ links_fit_requires c κs = search rules
 
 returns : tie.Need-returns-then-not-links_fit
 returns c =
-    ends_count _ _ _ c.links_in-n.ensures (sym c.links_fit.ensures ∙ not-true _ c.if-not-links_fit.true)
+    ends_count _ _ _ c.links_in-n.ensures (sym c.links_fit.ensures ∙ c.if-not-links_fit.true)
 
 bad_link_requires : tie.Need-bad_link-bad-requires
 bad_link_requires c κs = few c

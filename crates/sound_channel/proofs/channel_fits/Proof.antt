@@ -5,13 +5,6 @@ use borrow.Author.Rules.{rules}
 use Rattle.sound_channel.proofs.channel_fits.Statement.{statement}
 use Rattle.sound_channel.proofs.channel_fits.Tie as tie
 
--- the start; the numbers' constructor has answered, and the hops have been read behind it
-abbrev start : tie.After-new → tie.Start
-start n = n.before.before.before.before.before.before
-
-abbrev numbers : tie.After-hops → tie.After-new
-numbers h = h.before.before.before
-
 c_requires : tie.Need-c-requires
 c_requires c κs = search rules
 
@@ -24,83 +17,48 @@ d_requires c κs = search rules
 b_requires : tie.Need-b-requires
 b_requires c κs = search rules
 
-new_requires : tie.Need-new-requires
+new_requires : tie.Need-new-checked-requires
 new_requires c κs = search rules
 
-enum_told : tie.Need-enum-told
+enum_told : tie.Need-enum_told-1
 enum_told c = search rules
 
-enum_told_2 : tie.Need-enum-told-2
+enum_told_2 : tie.Need-enum_told-in_default
 enum_told_2 c = search rules
 
-returns : tie.Need-returns
+returns : tie.Need-returns-in_default
 returns c =
-    let n = c.before.before in
-    let s = start n in
-    let b = n.before in
-    numbers_fail s.args.store.now s.args.x _ _ _ _ b.before.before.before.c.ensures
-    b.before.before.p.ensures b.before.d.ensures b.b.ensures (sym n.new.ensures ∙ c.enum_told2.given.1)
+    numbers_fail c.args.store.now c.args.x _ _ _ _ c.c.ensures
+    c.p.ensures c.d.ensures c.b.ensures (sym c.new-checked.ensures ∙ c.in_default.is)
 
-hops_requires : tie.Need-hops-requires
+hops_requires : tie.Need-hops-hops-requires
 hops_requires c κs = search rules
 
-new_requires_2 : tie.Need-new-requires-2
+new_requires_2 : tie.Need-new-requires
 new_requires_2 c κs = search rules
 
-enum_told_3 : tie.Need-enum-told-3
+enum_told_3 : tie.Need-enum_told-in-Good-new
 enum_told_3 c = search rules
 
-enum_told_4 : tie.Need-enum-told-4
+enum_told_4 : tie.Need-enum_told-in_default-new
 enum_told_4 c = search rules
 
-returns_2 : tie.Need-returns-2
+returns_2 : tie.Need-returns-in_default-new
 returns_2 c =
-    let m = c.before.before in
-    let h = m.before in
-    let t = h.before in
-    let n = numbers h in
-    let s = start n in
-    let b = n.before in
-    let one = numbers_pass s.args.store.now s.args.x _ _ _ _ b.before.before.before.c.ensures
-    b.before.before.p.ensures b.before.d.ensures b.b.ensures (sym n.new.ensures ∙ t.enum_told.given.1) in
-    hops_fail s.args.store.now s.args.x _ h.hops.ensures one (sym m.new2.ensures ∙ c.enum_told4.given.1)
+    let one = numbers_pass c.args.store.now c.args.x _ _ _ _ c.c.ensures
+    c.p.ensures c.d.ensures c.b.ensures (sym c.new-checked.ensures ∙ c.in-Good.is) in
+    hops_fail c.args.store.now c.args.x _ c.hops-hops.ensures one (sym c.new.ensures ∙ c.in_default-new.is)
 
-route_passes_requires : tie.Need-route-passes-requires
+route_passes_requires : tie.Need-route_passes-requires
 route_passes_requires c κs =
-    let m = c.before.before in
-    let s = start (numbers m.before) in
-    (s.pre.0, (s.pre.1.0, (s.pre.1.1, hops_most _ (sym m.new2.ensures ∙ c.enum_told3.given.1))))
+    (c.requires.0, (c.requires.1.0, (c.requires.1.1, hops_most _ (sym c.new.ensures ∙ c.in-Good-new.is))))
 
-returns_3 : tie.Need-returns-3
+returns_3 : tie.Need-returns
 returns_3 c =
-    let k = c.before in
-    let m = k.before.before in
-    let h = m.before in
-    let t = h.before in
-    let n = numbers h in
-    let s = start n in
-    let b = n.before in
-    let one = numbers_pass s.args.store.now s.args.x _ _ _ _ b.before.before.before.c.ensures
-    b.before.before.p.ensures b.before.d.ensures b.b.ensures (sym n.new.ensures ∙ t.enum_told.given.1) in
-    hops_pass s.args.store.now s.args.x _ h.hops.ensures one (sym m.new2.ensures ∙ k.enum_told3.given.1) _
+    let one = numbers_pass c.args.store.now c.args.x _ _ _ _ c.c.ensures
+    c.p.ensures c.d.ensures c.b.ensures (sym c.new-checked.ensures ∙ c.in-Good.is) in
+    hops_pass c.args.store.now c.args.x _ c.hops-hops.ensures one (sym c.new.ensures ∙ c.in-Good-new.is) _
     c.route_passes.ensures
 
 pub channel_fits_spec : {M : Type 1} → statement M
-channel_fits_spec =
-    tie.close
-    (tie.spec
-    c_requires
-    p_requires
-    d_requires
-    b_requires
-    new_requires
-    enum_told
-    enum_told_2
-    returns
-    hops_requires
-    new_requires_2
-    enum_told_3
-    enum_told_4
-    returns_2
-    route_passes_requires
-    returns_3)
+channel_fits_spec = tie.close (tie.spec c_requires p_requires d_requires b_requires new_requires enum_told enum_told_2 returns hops_requires new_requires_2 enum_told_3 enum_told_4 returns_2 route_passes_requires returns_3)

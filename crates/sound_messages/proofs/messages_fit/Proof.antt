@@ -22,7 +22,7 @@ time_fits_requires c κs =
 returns_2 : tie.Need-returns-then-not-time_fits
 returns_2 c =
     too_late c.args.store.now c.args.x _ c.messages-n.ensures (held c.is_number.ensures c.if-not-is_number.false)
-    (refuted c.time_fits_lem.ensures c.if-not-time_fits.true)
+    (refuted c.time_fits.ensures c.if-not-time_fits.true)
 
 end_requires : tie.Need-end-requires
 end_requires c κs = search rules
@@ -38,7 +38,7 @@ mul_if3 c =
 returns_3 : tie.Need-returns-then-end-c
 returns_3 c =
     too_much c.args.store.now c.args.x _ c.messages-n.ensures (held c.is_number.ensures c.if-not-is_number.false) _ _
-    c.end.ensures c.c.ensures (held c.time_fits_lem.ensures c.if-not-time_fits.false) c.if-end-c.true
+    c.end.ensures c.c.ensures (held c.time_fits.ensures c.if-not-time_fits.false) c.if-end-c.true
 
 in_order_requires : tie.Need-in_order-requires
 in_order_requires c κs =
@@ -57,7 +57,7 @@ in_order_requires c κs =
 returns_4 : tie.Need-returns
 returns_4 c =
     ordered c.args.store.now c.args.x _ c.messages-n.ensures (held c.is_number.ensures c.if-not-is_number.false) _ _
-    c.end.ensures c.c.ensures (held c.time_fits_lem.ensures c.if-not-time_fits.false) c.if-end-c.false _
+    c.end.ensures c.c.ensures (held c.time_fits.ensures c.if-not-time_fits.false) c.if-end-c.false _
     c.in_order.ensures
 
 pub messages_fit_spec : {M : Type 1} → statement M

@@ -22,7 +22,7 @@ returns_2 c =
 
 route_requires : tie.Need-route-requires
 route_requires c κs =
-    let h = hops_requires c κs in
+    let h = hops_requires c.before.before κs in
     let k =
     place_most _ c.requires _ _ c.channels.ensures c.if-x-channels.false _ _ c.hops.ensures c.if-j-hops.false in
     (h.0, (h.1, k))
