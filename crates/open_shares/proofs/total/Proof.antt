@@ -8,53 +8,38 @@ use Rattle.folds.proofs.Adding.{Adding, adding_none, adding_more, adding_fits, a
 use Rattle.open_shares.proofs.total.Statement.{statement}
 use Rattle.open_shares.proofs.total.Tie as tie
 
-abbrev invariant_loop : tie.invariant_loop
+abbrev invariant_loop : tie.invariant-loop-j
 invariant_loop responses n sum₀ j₀ sum j = Adding (number_at responses) most_p n j sum
 
-abbrev decreases_loop : tie.decreases_loop
+abbrev decreases_loop : tie.decreases-loop-j
 decreases_loop responses n sum₀ j₀ sum j = n - j
 
-loop_holds : tie.Need-loop-init invariant_loop decreases_loop
+loop_holds : tie.Need-loop-j-init invariant_loop decreases_loop
 loop_holds c = adding_none _ _ _
 
-mul_sum : tie.Need-overflow-mul-sum invariant_loop decreases_loop
+mul_sum : tie.Need-offset_bounds-responses-j invariant_loop decreases_loop
 mul_sum c = omega arith
 
-element_copy_out_sum : tie.Need-element-copy-out-sum invariant_loop decreases_loop
+element_copy_out_sum : tie.Need-bounds-responses-j invariant_loop decreases_loop
 element_copy_out_sum c = omega arith
 
-add_sum : tie.Need-overflow-add-sum invariant_loop decreases_loop
+add_sum : tie.Need-overflow_add-sum invariant_loop decreases_loop
 add_sum c =
-    let a = c.before.before in
-    let s = a.before in
-    adding_fits _ _ _ _ _ a.loop.invariant (omega arith) (omega arith) _ (s.requires.1 a.loop.j c.before.loop_test.true)
+    adding_fits _ _ _ _ _ c.loop-j.invariant (omega arith) (omega arith) _ (c.requires.1 c.loop-j.j c.loop-j-test.true)
 
-add_j : tie.Need-overflow-add-j invariant_loop decreases_loop
+add_j : tie.Need-overflow_add-j invariant_loop decreases_loop
 add_j c = omega arith
 
-loop_less : tie.Need-loop-smaller invariant_loop decreases_loop
+loop_less : tie.Need-loop-j-smaller invariant_loop decreases_loop
 loop_less c = omega arith
 
-loop_again : tie.Need-loop-preserved invariant_loop decreases_loop
+loop_again : tie.Need-loop-j-preserved invariant_loop decreases_loop
 loop_again c =
-    let a = c.before.before in
-    let h = c.before.loop_test.true in
-    adding_more _ _ _ _ _ a.loop.invariant h _ refl (a.before.requires.1 a.loop.j h)
+    let h = c.loop-j-test.true in
+    adding_more _ _ _ _ _ c.loop-j.invariant h _ refl (c.requires.1 c.loop-j.j h)
 
 returns : tie.Need-returns invariant_loop decreases_loop
-returns c = adding_done _ _ _ _ _ c.before.loop.invariant c.loop_test.false
+returns c = adding_done _ _ _ _ _ c.loop-j.invariant c.loop-j-test.false
 
 pub total_spec : {M : Type 1} → statement M
-total_spec =
-    tie.close
-    (tie.spec
-    invariant_loop
-    decreases_loop
-    loop_holds
-    mul_sum
-    element_copy_out_sum
-    add_sum
-    add_j
-    loop_less
-    loop_again
-    returns)
+total_spec = tie.close (tie.spec invariant_loop decreases_loop loop_holds mul_sum element_copy_out_sum add_sum add_j loop_less loop_again returns)

@@ -4,16 +4,15 @@ use borrow.Author.Rules.{rules}
 use Rattle.sound.proofs.all_listed_lem.Statement.{statement}
 use Rattle.sound.proofs.all_listed_lem.Tie as tie
 
-all_rows_requires : tie.Need-all-rows-requires
+all_rows_requires : tie.Need-all_rows-requires
 all_rows_requires c κs = search rules
 
-all_places_requires : tie.Need-all-places-requires
+all_places_requires : tie.Need-all_places-requires
 all_places_requires c κs = search rules
 
 returns : tie.Need-returns
 returns c =
-    let s = c.before.before.before in
-    counted _ s.requires.0 s.requires.1 _ _ c.before.all_rows.ensures c.all_places.ensures
+    counted _ c.requires.0 c.requires.1 _ _ c.all_rows.ensures c.all_places.ensures
 
 pub all_listed_spec : {M : Type 1} → statement M
 all_listed_spec = tie.close (tie.spec all_rows_requires all_places_requires returns)

@@ -7,67 +7,51 @@ use borrow.Author.Rules.{rules}
 use Rattle.sound.proofs.is_sound.Statement.{statement}
 use Rattle.sound.proofs.is_sound.Tie as tie
 
-abbrev start : tie.Else2 → tie.Start
-start c = c.before.before.before.before
-
 -- what has passed
-counted : (c : tie.Else2) → Counted (start c).args.store.now
-counted c = (c.before.before.if1.false, held c.before.counts_fit.ensures c.if2.false)
+counted : (c : tie.Else-not-counts_fit) → Counted c.args.store.now
+counted c = (c.if-store-lt-LENGTH.false, held c.counts_fit.ensures c.if-not-counts_fit.false)
 
-linked : (c : tie.Else3) → Linked (start c.before.before).args.store.now
-linked c = (counted c.before.before, held c.before.links_fit.ensures c.if3.false)
+linked : (c : tie.Else-not-links_fit) → Linked c.args.store.now
+linked c = (counted c.before.before, held c.links_fit.ensures c.if-not-links_fit.false)
 
-fitting : (c : tie.Else4) → Fit (start c.before.before.before.before).args.store.now
-fitting c = fit _ (linked c.before.before) (held c.before.channels_sound.ensures c.if4.false)
+fitting : (c : tie.Else-not-channels_sound) → Fit c.args.store.now
+fitting c = fit _ (linked c.before.before) (held c.channels_sound.ensures c.if-not-channels_sound.false)
 
-filled : (c : tie.Else5) → let d = c.before.before in Filled (start d.before.before.before.before).args.store.now
-filled c = (fitting c.before.before, held c.before.rows_sound.ensures c.if5.false)
+filled : (c : tie.Else-not-rows_sound) → Filled c.args.store.now
+filled c = (fitting c.before.before, held c.rows_sound.ensures c.if-not-rows_sound.false)
 
-returns : tie.Need-returns
-returns c = too_short _ c.if1.true
+returns : tie.Need-returns-then-store-lt-LENGTH
+returns c = too_short _ c.if-store-lt-LENGTH.true
 
-counts_fit_requires : tie.Need-counts-fit-requires
+counts_fit_requires : tie.Need-counts_fit-requires
 counts_fit_requires c κs = search rules
 
-returns_2 : tie.Need-returns-2
-returns_2 c = bad_counts _ c.before.before.if1.false (refuted c.before.counts_fit.ensures c.if2.true)
+returns_2 : tie.Need-returns-then-not-counts_fit
+returns_2 c = bad_counts _ c.if-store-lt-LENGTH.false (refuted c.counts_fit.ensures c.if-not-counts_fit.true)
 
-links_fit_requires : tie.Need-links-fit-requires
+links_fit_requires : tie.Need-links_fit-requires
 links_fit_requires c κs = counted c
 
-returns_3 : tie.Need-returns-3
-returns_3 c = bad_links _ (counted c.before.before) (refuted c.before.links_fit.ensures c.if3.true)
+returns_3 : tie.Need-returns-then-not-links_fit
+returns_3 c = bad_links _ (counted c.before.before) (refuted c.links_fit.ensures c.if-not-links_fit.true)
 
-channels_sound_requires : tie.Need-channels-sound-requires
+channels_sound_requires : tie.Need-channels_sound-requires
 channels_sound_requires c κs = counted c.before.before
 
-returns_4 : tie.Need-returns-4
-returns_4 c = bad_channels _ (linked c.before.before) (refuted c.before.channels_sound.ensures c.if4.true)
+returns_4 : tie.Need-returns-then-not-channels_sound
+returns_4 c = bad_channels _ (linked c.before.before) (refuted c.channels_sound.ensures c.if-not-channels_sound.true)
 
-rows_sound_requires : tie.Need-rows-sound-requires
+rows_sound_requires : tie.Need-rows_sound-requires
 rows_sound_requires c κs = fitting c
 
-returns_5 : tie.Need-returns-5
-returns_5 c = bad_rows _ (fitting c.before.before) (refuted c.before.rows_sound.ensures c.if5.true)
+returns_5 : tie.Need-returns-then-not-rows_sound
+returns_5 c = bad_rows _ (fitting c.before.before) (refuted c.rows_sound.ensures c.if-not-rows_sound.true)
 
-all_listed_requires : tie.Need-all-listed-requires
+all_listed_requires : tie.Need-all_listed-requires
 all_listed_requires c κs = filled c
 
-returns_6 : tie.Need-returns-6
-returns_6 c = lists _ (filled c.before) _ c.all_listed_lem.ensures
+returns_6 : tie.Need-returns
+returns_6 c = lists _ (filled c.before) _ c.all_listed.ensures
 
 pub is_sound_spec : {M : Type 1} → statement M
-is_sound_spec =
-    tie.close
-    (tie.spec
-    returns
-    counts_fit_requires
-    returns_2
-    links_fit_requires
-    returns_3
-    channels_sound_requires
-    returns_4
-    rows_sound_requires
-    returns_5
-    all_listed_requires
-    returns_6)
+is_sound_spec = tie.close (tie.spec returns counts_fit_requires returns_2 links_fit_requires returns_3 channels_sound_requires returns_4 rows_sound_requires returns_5 all_listed_requires returns_6)
