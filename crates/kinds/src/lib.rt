@@ -151,7 +151,7 @@ impl Channel {
 }
 
 // A route of `hops` links.
-#[derive(Drop)]
+#[derive(Clone, Copy)]
 pub struct Route {
     pub hops: usize,
 }

@@ -1,7 +1,7 @@
 -- The rule of an offer, on the numbers as the code reads them.
 use Prim.Native.Nat.{ℕ, zero, suc, ◌+◌, ◌-◌, ◌*◌, ◌≤◌, ◌<◌, max}
 use mathlib.Core.Path.{◌≡◌, refl, sym, ◌∙◌}
-use mathlib.Core.Bool.{Bool, true, false, not}
+use mathlib.Core.Bool.{Bool, true, false}
 use native.Mathlib.Omega.{arith}
 use lib.Dec.{leb, ltb}
 use borrow.Author.Tests.{le-leb, lt-leb, lt-ltb, le-ltb}
@@ -73,14 +73,14 @@ module _ {u n : ℕ} (e : u ≡ n) where
 
 -- 17, looked at last: test by test, where u and y are what the code was told
 module _ (w : Store) (x packets n : ℕ) (en : n ≡ messages_of w x) {u : Bool} (ex : u ≡ is_number (n + 1)) where
-  pub room_uncounted : not u ≡ true → false ≡ takes_message w x packets
+  pub room_uncounted : u ≡ false → false ≡ takes_message w x packets
   room_uncounted h = fails (rw en at ex) _ h
 
-  module _ (h : not u ≡ false) {y : Bool} (ey : y ≡ in_order w x n (ring - 2)) where
-    pub room_unkept : not y ≡ true → false ≡ takes_message w x packets
+  module _ (h : u ≡ true) {y : Bool} (ey : y ≡ in_order w x n (ring - 2)) where
+    pub room_unkept : y ≡ false → false ≡ takes_message w x packets
     room_unkept l = passes (rw en at ex) h (fails (rw en at ey) _ l)
 
-    pub room_is : not y ≡ false → (held reserved : ℕ) → held ≡ held_of w x 0 → reserved ≡ reserved_of w x 0
+    pub room_is : y ≡ true → (held reserved : ℕ) → held ≡ held_of w x 0 → reserved ≡ reserved_of w x 0
         → leb (held + packets) reserved ≡ takes_message w x packets
     room_is l held reserved eh er = passes (rw en at ex) h (passes (rw en at ey) l (rw (eh, er)))
 

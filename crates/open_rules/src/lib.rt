@@ -5,7 +5,7 @@
 use kinds::Route;
 
 // The channel's number, or the refusal's number and place.
-#[derive(Drop)]
+#[derive(Clone, Copy)]
 pub enum Outcome {
     Refused(u64, u64),
     Accepted(u64),

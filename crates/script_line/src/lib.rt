@@ -11,7 +11,7 @@ ghost use Rattle.script_line.specs.Count.{count_of};
 use text_decimal::Number;
 
 // What a line asks. Its numbers are lent beside it; `Open` says how many links its route has.
-#[derive(Drop)]
+#[derive(Clone, Copy)]
 pub enum Line {
     Bad,
     Link,

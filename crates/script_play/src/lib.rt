@@ -16,7 +16,7 @@ use script_listing::BUFFER;
 use setup::SetUp;
 
 // How far a run has come: so many good `link` lines before set-up; running; or over, its set-up refused.
-#[derive(Drop)]
+#[derive(Clone, Copy)]
 pub enum Phase {
     Before(usize),
     Running,
@@ -24,7 +24,7 @@ pub enum Phase {
 }
 
 // What comes after a line: the next one, or first so many slots.
-#[derive(Drop)]
+#[derive(Clone, Copy)]
 pub enum Next {
     Line,
     Slots(u64),

@@ -19,7 +19,7 @@ use text_lines::KEPT;
 
 // What is kept from step to step, beside the buffers: the phase and what comes next; how many lines there have been, and how many
 // bytes of the present one are kept; where the chunk goes on, and where the listing goes on in its buffer.
-#[derive(Drop)]
+#[derive(Clone, Copy)]
 pub struct Run {
     pub phase: Phase,
     pub next: Next,

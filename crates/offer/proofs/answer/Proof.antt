@@ -25,147 +25,96 @@ store s = s.args.store.now
 abbrev checks : tie.Start → List Check
 checks s = offer_checks (store s) s.args.number s.args.packets
 
--- Where the code has come so far, and the checks that hold there.
-abbrev start_17 : tie.Else1 → tie.Start
-start_17 c = c.before.before.before
+past_17 : (c : tie.Else-not-is_sound) → AllHold (take 1 (checks c.before.before.before))
+past_17 c = one_more (checks c.before.before.before) 0 refl tt (held c.is_sound.ensures c.if-not-is_sound.false)
 
-abbrev start_14 : tie.Else2 → tie.Start
-start_14 c = start_17 c.before.before.before
-
-abbrev start_11 : tie.Else3 → tie.Start
-start_11 c = start_14 c.before
-
-abbrev start_12 : tie.Else4 → tie.Start
-start_12 c = start_11 c.before.before
-
-abbrev start_13 : tie.Else5 → tie.Start
-start_13 c = start_12 c.before.before.before
-
-abbrev start_room : tie.Else6 → tie.Start
-start_room c = start_13 c.before.before
-
-past_17 : (c : tie.Else1) → AllHold (take 1 (checks (start_17 c)))
-past_17 c = one_more (checks (start_17 c)) 0 refl tt (held c.before.is_sound.ensures c.if1.false)
-
-past_14 : (c : tie.Else2) → AllHold (take 2 (checks (start_14 c)))
+past_14 : (c : tie.Else-clock-ge-END) → AllHold (take 2 (checks c.before.before.before.before.before.before))
 past_14 c =
-    let k = c.before.before in
-    one_more (checks (start_14 c)) 1 refl (past_17 k.before) (under k.clock.ensures c.if2.false)
+    one_more (checks c.before.before.before.before.before.before) 1 refl (past_17 c.before.before.before) (under c.clock-clock.ensures c.if-clock-ge-END.false)
 
-past_11 : (c : tie.Else3) → AllHold (take 3 (checks (start_11 c)))
+past_11 : (c : tie.Else-number-channels) → AllHold (take 3 (checks c.before.before.before.before.before.before.before))
 past_11 c =
-    one_more (checks (start_11 c)) 2 refl (past_14 c.before) (known c.before.before.channels.ensures c.if3.false)
+    one_more (checks c.before.before.before.before.before.before.before) 2 refl (past_14 c.before) (known c.channels-channels.ensures c.if-number-channels.false)
 
 -- What the functions that read the channel ask.
-inside : (c : tie.Else3) → (sound_of (store (start_11 c)) ≡ true) × (IsChannel (store (start_11 c)) (start_11 c).args.number)
+inside : (c : tie.Else-number-channels) → (sound_of (store c.before.before.before.before.before.before.before) ≡ true) × (IsChannel (store c.before.before.before.before.before.before.before) c.args.number)
 inside c = let h = past_11 c in (h.0, ltb-true _ _ h.1.1.0)
 
-past_12 : (c : tie.Else4) → AllHold (take 4 (checks (start_12 c)))
+past_12 : (c : tie.Else-not-is_message) → AllHold (take 4 (checks c.before.before.before.before.before.before.before.before.before))
 past_12 c =
-    one_more (checks (start_12 c)) 3 refl (past_11 c.before.before) (held c.before.is_message_lem.ensures c.if4.false)
+    one_more (checks c.before.before.before.before.before.before.before.before.before) 3 refl (past_11 c.before.before) (held c.is_message.ensures c.if-not-is_message.false)
 
-past_13 : (c : tie.Else5) → AllHold (take 5 (checks (start_13 c)))
+past_13 : (c : tie.Else-not-in_burst) → AllHold (take 5 (checks c.before.before.before.before.before.before.before.before.before.before.before.before))
 past_13 c =
-    one_more (checks (start_13 c)) 4 refl (past_12 c.before.before.before)
-    (held c.before.in_burst.ensures c.if5.false)
+    one_more (checks c.before.before.before.before.before.before.before.before.before.before.before.before) 4 refl (past_12 c.before.before.before)
+    (held c.in_burst.ensures c.if-not-in_burst.false)
 
-passed : (c : tie.Else5) → Passed (store (start_13 c)) (start_13 c).args.number (start_13 c).args.packets
+passed : (c : tie.Else-not-in_burst) → Passed (store c.before.before.before.before.before.before.before.before.before.before.before.before) c.args.number c.args.packets
 passed c = passed_is _ _ _ (past_13 c)
 
-past_room : (c : tie.Else6) → AllHold (checks (start_room c))
+past_room : (c : tie.Else-not-takes_message) → AllHold (checks c.before.before.before.before.before.before.before.before.before.before.before.before.before.before)
 past_room c =
-    let p = c.before.before in
-    one_more (checks (start_room c)) 5 refl (past_13 p)
-    (room_decides _ _ _ (passed p) ∙ held c.before.takes_message_lem.ensures c.if6.false)
+    one_more (checks c.before.before.before.before.before.before.before.before.before.before.before.before.before.before) 5 refl (past_13 c.before.before)
+    (room_decides _ _ _ (passed c.before.before) ∙ held c.takes_message.ensures c.if-not-takes_message.false)
 
-is_sound_requires : tie.Need-is-sound-requires
+is_sound_requires : tie.Need-is_sound-requires
 is_sound_requires c κs = search rules
 
-returns : tie.Need-returns
+returns : tie.Need-returns-then-not-is_sound
 returns c =
-    let s = c.before.before.before in
-    answer_refused (store s) s.args.number s.args.packets 0 refl tt
-    (refuted c.before.is_sound.ensures c.if1.true)
+    answer_refused (store c.before.before.before) c.args.number c.args.packets 0 refl tt
+    (refuted c.is_sound.ensures c.if-not-is_sound.true)
 
-clock_requires : tie.Need-clock-requires
-clock_requires c κs = (sound_is (store (start_17 c)) (past_17 c).0).long
+clock_requires : tie.Need-clock-clock-requires
+clock_requires c κs = (sound_is (store c.before.before.before) (past_17 c).0).long
 
-channels_requires : tie.Need-channels-requires
-channels_requires c κs = (sound_is (store (start_17 c.before)) (past_17 c.before).0).long
+channels_requires : tie.Need-channels-channels-requires
+channels_requires c κs = (sound_is (store c.before.before.before.before) (past_17 c.before).0).long
 
-returns_2 : tie.Need-returns-2
+returns_2 : tie.Need-returns-then-clock-ge-END
 returns_2 c =
-    let k = c.before.before in
-    let s = start_17 k.before in
-    answer_refused (store s) s.args.number s.args.packets 1 refl (past_17 k.before)
-    (at_least k.clock.ensures c.if2.true)
+    answer_refused (store c.before.before.before.before.before.before) c.args.number c.args.packets 1 refl (past_17 c.before.before.before)
+    (at_least c.clock-clock.ensures c.if-clock-ge-END.true)
 
-returns_3 : tie.Need-returns-3
+returns_3 : tie.Need-returns-then-number-channels
 returns_3 c =
-    let s = start_14 c.before in
-    answer_refused (store s) s.args.number s.args.packets 2 refl (past_14 c.before)
-    (unknown c.before.before.channels.ensures c.if3.true)
+    answer_refused (store c.before.before.before.before.before.before.before) c.args.number c.args.packets 2 refl (past_14 c.before)
+    (unknown c.channels-channels.ensures c.if-number-channels.true)
 
-is_message_requires : tie.Need-is-message-requires
+is_message_requires : tie.Need-is_message-requires
 is_message_requires c κs = inside c
 
-returns_4 : tie.Need-returns-4
+returns_4 : tie.Need-returns-then-not-is_message
 returns_4 c =
-    let t = c.before.before in
-    let s = start_11 t in
-    answer_refused (store s) s.args.number s.args.packets 3 refl (past_11 t)
-    (refuted c.before.is_message_lem.ensures c.if4.true)
+    answer_refused (store c.before.before.before.before.before.before.before.before.before) c.args.number c.args.packets 3 refl (past_11 c.before.before)
+    (refuted c.is_message.ensures c.if-not-is_message.true)
 
-next_time_requires : tie.Need-next-time-requires
+next_time_requires : tie.Need-next_time-time-requires
 next_time_requires c κs = inside c.before.before
 
-in_burst_requires : tie.Need-in-burst-requires
-in_burst_requires c κs = let i = inside c.before.before.before in (i.0, (i.1, c.next_time.ensures))
+in_burst_requires : tie.Need-in_burst-requires
+in_burst_requires c κs = let i = inside c.before.before.before in (i.0, (i.1, c.next_time-time.ensures))
 
-returns_5 : tie.Need-returns-5
+returns_5 : tie.Need-returns-then-not-in_burst
 returns_5 c =
-    let t = c.before.before.before in
-    let s = start_12 t in
-    answer_refused (store s) s.args.number s.args.packets 4 refl (past_12 t)
-    (refuted c.before.in_burst.ensures c.if5.true)
+    answer_refused (store c.before.before.before.before.before.before.before.before.before.before.before.before) c.args.number c.args.packets 4 refl (past_12 c.before.before.before)
+    (refuted c.in_burst.ensures c.if-not-in_burst.true)
 
-takes_message_requires : tie.Need-takes-message-requires
+takes_message_requires : tie.Need-takes_message-requires
 takes_message_requires c κs = let p = passed c in (p.sound, (p.known, p.most))
 
-returns_6 : tie.Need-returns-6
+returns_6 : tie.Need-returns-then-not-takes_message
 returns_6 c =
-    let t = c.before.before in
-    let s = start_13 t in
-    answer_refused (store s) s.args.number s.args.packets 5 refl (past_13 t)
-    (room_decides _ _ _ (passed t) ∙ refuted c.before.takes_message_lem.ensures c.if6.true)
+    answer_refused (store c.before.before.before.before.before.before.before.before.before.before.before.before.before.before) c.args.number c.args.packets 5 refl (past_13 c.before.before)
+    (room_decides _ _ _ (passed c.before.before) ∙ refuted c.takes_message.ensures c.if-not-takes_message.true)
 
 messages_requires : tie.Need-messages-requires
 messages_requires c κs = let p = passed c.before.before in readable _ _ p.sound p.known
 
-returns_7 : tie.Need-returns-7
+returns_7 : tie.Need-returns
 returns_7 c =
-    let t = c.before in
-    let n = t.before.before.before.before in
-    let s = start_room t in
-    rw (c.messages.ensures, n.next_time.ensures)
-    (sym (answer_accepted (store s) s.args.number s.args.packets (past_room t)))
+    rw (c.messages.ensures, c.next_time-time.ensures)
+    (sym (answer_accepted (store c.before.before.before.before.before.before.before.before.before.before.before.before.before.before.before) c.args.number c.args.packets (past_room c.before)))
 
 pub answer_spec : {M : Type 1} → statement M
-answer_spec =
-    tie.close
-    (tie.spec
-    is_sound_requires
-    returns
-    clock_requires
-    channels_requires
-    returns_2
-    returns_3
-    is_message_requires
-    returns_4
-    next_time_requires
-    in_burst_requires
-    returns_5
-    takes_message_requires
-    returns_6
-    messages_requires
-    returns_7)
+answer_spec = tie.close (tie.spec is_sound_requires returns clock_requires channels_requires returns_2 returns_3 is_message_requires returns_4 next_time_requires in_burst_requires returns_5 takes_message_requires returns_6 messages_requires returns_7)

@@ -6,41 +6,33 @@ use Rattle.offer.proofs.in_burst.Statement.{statement}
 use Rattle.offer.proofs.in_burst.Tie as tie
 
 clock_requires : tie.Need-clock-requires
-clock_requires c κs = let s = c.before in long _ _ s.requires.0 s.requires.1.0
+clock_requires c κs = long _ _ c.requires.0 c.requires.1.0
 
-sub_ahead : tie.Need-overflow-sub-ahead
+sub_ahead : tie.Need-overflow_sub-ahead
 sub_ahead c =
-    let s = c.before.before in
-    time_least s.args.store.now s.args.x _ _ s.requires.1.1 c.clock.ensures
+    time_least c.args.store.now c.args.x _ _ c.requires.1.1 c.clock.ensures
 
 b_requires : tie.Need-b-requires
 b_requires c κs =
-    let s = c.before.before in
-    readable _ _ s.requires.0 s.requires.1.0
+    readable _ _ c.requires.0 c.requires.1.0
 
-sub_result : tie.Need-overflow-sub-result
+sub_result : tie.Need-overflow_sub-result
 sub_result c =
-    let s = c.before.before.before in
-    omega (arith, c.b.ensures, (channel _ _ s.requires.0 s.requires.1.0).good.b_least)
+    omega (arith, c.b.ensures, (channel _ _ c.requires.0 c.requires.1.0).good.b_least)
 
 p_requires : tie.Need-p-requires
 p_requires c κs =
-    let s = c.before.before.before in
-    readable _ _ s.requires.0 s.requires.1.0
+    readable _ _ c.requires.0 c.requires.1.0
 
-mul_result : tie.Need-overflow-mul-result
+mul_result : tie.Need-overflow_mul-result
 mul_result c =
-    let s = c.before.before.before.before in
-    burst_fits _ _ s.requires.0 s.requires.1.0 _ _
-    (omega (arith, c.before.b.ensures, (channel _ _ s.requires.0 s.requires.1.0).good.b_most)) c.p.ensures
+    burst_fits _ _ c.requires.0 c.requires.1.0 _ _
+    (omega (arith, c.b.ensures, (channel _ _ c.requires.0 c.requires.1.0).good.b_most)) c.p.ensures
 
 returns : tie.Need-returns
 returns c =
-    let s = c.before.before.before.before in
-    burst_is s.args.store.now s.args.x _ _ _ _ s.requires.1.1 c.before.before.clock.ensures c.before.b.ensures
+    burst_is c.args.store.now c.args.x _ _ _ _ c.requires.1.1 c.clock.ensures c.b.ensures
     c.p.ensures
 
 pub in_burst_spec : {M : Type 1} → statement M
-in_burst_spec =
-    tie.close
-    (tie.spec clock_requires sub_ahead b_requires sub_result p_requires mul_result returns)
+in_burst_spec = tie.close (tie.spec clock_requires sub_ahead b_requires sub_result p_requires mul_result returns)

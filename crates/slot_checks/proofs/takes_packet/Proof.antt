@@ -7,26 +7,24 @@ use Rattle.slot_checks.proofs.takes_packet.Tie as tie
 
 held_requires : tie.Need-held-requires
 held_requires c κs =
-    let p = c.before.requires in
+    let p = c.requires in
     let r = place_ready _ p.0 _ _ p.1.1.0 p.1.1.1 in
     (r.0, (r.1.0, (r.1.1, place_flows _ p.0 _ _ p.1.1.0 p.1.1.1)))
 
 reserved_requires : tie.Need-reserved-requires
 reserved_requires c κs =
-    let p = c.before.before.requires in
+    let p = c.requires in
     (place_ranged _ p.0 _ _ p.1.1.0 p.1.1.1, p.1.1.1)
 
-returns : tie.Need-returns
-returns c = room_free _ _ _ _ _ c.before.before.held.ensures c.before.reserved.ensures c.if1.true
+returns : tie.Need-returns-then-held-reserved
+returns c = room_free _ _ _ _ _ c.held.ensures c.reserved.ensures c.if-held-reserved.true
 
 leaves_requires : tie.Need-leaves-requires
 leaves_requires c κs = search rules
 
-returns_2 : tie.Need-returns-2
+returns_2 : tie.Need-returns
 returns_2 c =
-    let r = c.before.before in
-    room_full _ _ _ _ _ r.before.held.ensures r.reserved.ensures c.before.if1.false _ c.leaves.ensures
+    room_full _ _ _ _ _ c.held.ensures c.reserved.ensures c.if-held-reserved.false _ c.leaves.ensures
 
 pub takes_packet_spec : {M : Type 1} → statement M
-takes_packet_spec =
-    tie.close (tie.spec held_requires reserved_requires returns leaves_requires returns_2)
+takes_packet_spec = tie.close (tie.spec held_requires reserved_requires returns leaves_requires returns_2)

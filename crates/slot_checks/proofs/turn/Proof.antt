@@ -20,96 +20,69 @@ use Rattle.slot_checks.proofs.turn.Tie as tie
 abbrev checks : tie.Start → List Check
 checks s = slot_checks s.args.store.now s.args.size
 
-abbrev start_17 : tie.Else1 → tie.Start
-start_17 c = c.before.before.before
+past_17 : (c : tie.Else-not-is_sound) → AllHold (take 1 (checks c.before.before.before))
+past_17 c = one_more (checks c.before.before.before) 0 refl tt (held c.is_sound.ensures c.if-not-is_sound.false)
 
-abbrev start_14 : tie.Else2 → tie.Start
-start_14 c = start_17 c.before.before
-
-abbrev start_15 : tie.Else3 → tie.Start
-start_15 c = start_14 c.before.before
-
-past_17 : (c : tie.Else1) → AllHold (take 1 (checks (start_17 c)))
-past_17 c = one_more (checks (start_17 c)) 0 refl tt (held c.before.is_sound.ensures c.if1.false)
-
-past_14 : (c : tie.Else2) → AllHold (take 2 (checks (start_14 c)))
+past_14 : (c : tie.Else-clock-ge-END) → AllHold (take 2 (checks c.before.before.before.before.before))
 past_14 c =
-    one_more (checks (start_14 c)) 1 refl (past_17 c.before.before) (before_end c.before.clock.ensures c.if2.false)
+    one_more (checks c.before.before.before.before.before) 1 refl (past_17 c.before.before) (before_end c.clock.ensures c.if-clock-ge-END.false)
 
-past_15 : (c : tie.Else3) → AllHold (take 3 (checks (start_15 c)))
+past_15 : (c : tie.Else-size-links) → AllHold (take 3 (checks c.before.before.before.before.before.before.before))
 past_15 c =
-    one_more (checks (start_15 c)) 2 refl (past_14 c.before.before) (long_enough_lem c.before.links.ensures c.if3.false)
+    one_more (checks c.before.before.before.before.before.before.before) 2 refl (past_14 c.before.before) (long_enough_lem c.links.ensures c.if-size-links.false)
 
 -- what was found of the picked packets is what the last check asks
-late : (c : tie.After-fits2) → let s = start_15 c.before.before.before in
-    c.fits2.result ≡ sound_of (moved s.args.store.now)
-late c = c.fits2.ensures ∙ sym (room_decides _ _ (past_15 c.before.before.before))
+late : (c : tie.After-fits) → c.fits.result ≡ sound_of (moved c.args.store.now)
+late c = c.fits.ensures ∙ sym (room_decides _ _ (past_15 c.before.before))
 
 -- and the picks are left in the lent array
-made : (c : tie.After-fits2) → let s = start_15 c.before.before.before in
-    c.before.before.picks.result ≡ picks_left s.args.store.now s.args.size s.args.picks.now
-made c = c.before.before.picks.ensures ∙ sym (picks_made _ _ _ (past_15 c.before.before.before))
+made : (c : tie.After-fits) → c.picks.result ≡ picks_left c.args.store.now c.args.size c.args.picks.now
+made c = c.picks.ensures ∙ sym (picks_made _ _ _ (past_15 c.before.before))
 
-is_sound_requires : tie.Need-is-sound-requires
+is_sound_requires : tie.Need-is_sound-requires
 is_sound_requires c κs = search rules
 
-returns : tie.Need-returns
+returns : tie.Need-returns-then-not-is_sound
 returns c =
-    let f = refuted c.before.is_sound.ensures c.if1.true in
+    let f = refuted c.is_sound.ensures c.if-not-is_sound.true in
     (turn_refused _ _ 0 refl tt f, picks_stay _ _ _ 0 refl tt f)
 
 clock_requires : tie.Need-clock-requires
 clock_requires c κs = (sound_is _ (past_17 c).0).long
 
-returns_2 : tie.Need-returns-2
+returns_2 : tie.Need-returns-then-clock-ge-END
 returns_2 c =
     let h = past_17 c.before.before in
-    let f = at_end c.before.clock.ensures c.if2.true in
+    let f = at_end c.clock.ensures c.if-clock-ge-END.true in
     (turn_refused _ _ 1 refl h f, picks_stay _ _ _ 1 refl h f)
 
 links_requires : tie.Need-links-requires
 links_requires c κs = (sound_is _ (past_14 c).0).long
 
-mul_if3 : tie.Need-overflow-mul-if3
+mul_if3 : tie.Need-overflow_mul-links
 mul_if3 c = omega (arith, c.links.ensures, (sound_is _ (past_14 c.before).0).counts.links_most)
 
-returns_3 : tie.Need-returns-3
+returns_3 : tie.Need-returns-then-size-links
 returns_3 c =
     let h = past_14 c.before.before in
-    let f = too_short c.before.links.ensures c.if3.true in
+    let f = too_short c.links.ensures c.if-size-links.true in
     (turn_refused _ _ 2 refl h f, picks_stay _ _ _ 2 refl h f)
 
 picks_requires : tie.Need-picks-requires
 picks_requires c κs = (past_15 c).0
 
 fits_requires : tie.Need-fits-requires
-fits_requires c κs = ((past_15 c.before.before).0, c.before.picks.ensures)
+fits_requires c κs = ((past_15 c.before).0, c.picks.ensures)
 
-returns_4 : tie.Need-returns-4
+returns_4 : tie.Need-returns-then-not-fits
 returns_4 c =
-    let f = c.before in
-    let h = past_15 f.before.before.before in
-    (turn_refused _ _ 3 refl h (refuted (late f) c.if4.true), made f)
+    let h = past_15 c.before.before.before in
+    (turn_refused _ _ 3 refl h (refuted (late c.before) c.if-not-fits.true), made c.before)
 
-returns_5 : tie.Need-returns-5
+returns_5 : tie.Need-returns
 returns_5 c =
-    let f = c.before in
-    let e = f.before.before.before in
-    let s = checks (start_15 e) in
-    (sym (turn_ran _ _ (one_more s 3 refl (past_15 e) (held (late f) c.if4.false))), made f)
+    let s = checks c.before.before.before.before.before.before.before.before.before.before in
+    (sym (turn_ran _ _ (one_more s 3 refl (past_15 c.before.before.before) (held (late c.before) c.if-not-fits.false))), made c.before)
 
 pub turn_spec : {M : Type 1} → statement M
-turn_spec =
-    tie.close
-    (tie.spec
-    is_sound_requires
-    returns
-    clock_requires
-    returns_2
-    links_requires
-    mul_if3
-    returns_3
-    picks_requires
-    fits_requires
-    returns_4
-    returns_5)
+turn_spec = tie.close (tie.spec is_sound_requires returns clock_requires returns_2 links_requires mul_if3 returns_3 picks_requires fits_requires returns_4 returns_5)

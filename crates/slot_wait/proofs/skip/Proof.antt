@@ -9,77 +9,55 @@ use Rattle.slot_wait.proofs.Skipped.{idle_long, skip_stays, skip_clock, skip_ref
 use Rattle.slot_wait.proofs.skip.Statement.{statement}
 use Rattle.slot_wait.proofs.skip.Tie as tie
 
-abbrev start : tie.After-idle → tie.Start
-start c = c.before.before.before
-
-abbrev store : tie.After-idle → Store
-store c = (start c).args.store.now
+abbrev store : tie.After-idle-waited → Store
+store c = c.args.store.now
 
 -- what `idle` has answered
-waits : (c : tie.After-waited) → idle_answer (store c.before.before) ≡ Slots c.waited.given.0.0
-waits c = sym c.before.before.idle.ensures ∙ c.waited.given.1
+waits : (c : tie.In-Slots) → idle_answer (store c.before) ≡ Slots c.in-Slots.most
+waits c = sym c.idle-waited.ensures ∙ c.in-Slots.is
 
-refuses : (c : tie.After-enum-told)
-    → idle_answer (store c.before.before) ≡ Refused c.enum_told.given.0.0 c.enum_told.given.0.1.0
-refuses c = sym c.before.before.idle.ensures ∙ c.enum_told.given.1
+refuses : (c : tie.In_default)
+    → idle_answer (store c.before) ≡ Refused c.in_default.field-0 c.in_default.field-1
+refuses c = sym c.idle-waited.ensures ∙ c.in_default.is
 
-idle_requires : tie.Need-idle-requires
+idle_requires : tie.Need-idle-waited-requires
 idle_requires c κs = search rules
 
-enum_known_waited : tie.Need-enum-known-waited
+enum_known_waited : tie.Need-enum_known-waited
 enum_known_waited c = search rules
 
-enum_told : tie.Need-enum-told
+enum_told : tie.Need-enum_told-1
 enum_told c = search rules
 
-same_length : tie.Need-same-length
+same_length : tie.Need-shape_of-store-in_default
 same_length c = search rules
 
-returns : tie.Need-returns
+returns : tie.Need-returns-in_default
 returns c =
-    let r = skip_refused _ (start c.before.before).args.n (refuses c) in
-    (c.enum_told.given.1 ∙ sym r, sym (skip_stays _ _ r))
+    let r = skip_refused _ c.args.n (refuses c) in
+    (c.in_default.is ∙ sym r, sym (skip_stays _ _ r))
 
-smaller_requires : tie.Need-smaller-requires
+smaller_requires : tie.Need-smaller-slots-requires
 smaller_requires c κs = search rules
 
-clock_requires : tie.Need-clock-requires
-clock_requires c κs = idle_long _ (waits c.before.before.before)
+clock_requires : tie.Need-clock-clock-requires
+clock_requires c κs = idle_long _ (waits c.before)
 
-add_put_clock : tie.Need-overflow-add-put-clock
+add_put_clock : tie.Need-overflow_add-clock
 add_put_clock c =
-    let k = c.before in
-    let s = k.before.before in
-    let w = s.before.before in
-    let fits = skip_fits _ (waits w) (start w.before.before).args.n in
-    omega (arith, k.clock.ensures, s.smaller.ensures, fits)
+    let fits = skip_fits _ (waits c.before.before.before) c.args.n in
+    omega (arith, c.clock-clock.ensures, c.smaller-slots.ensures, fits)
 
-put_clock_requires : tie.Need-put-clock-requires
-put_clock_requires c κs = idle_long _ (waits c.before.before.before.before.before)
+put_clock_requires : tie.Need-put_clock-requires
+put_clock_requires c κs = idle_long _ (waits c.before.before.before)
 
-same_length_2 : tie.Need-same-length-2
+same_length_2 : tie.Need-shape_of-store
 same_length_2 c = search rules
 
-returns_2 : tie.Need-returns-2
+returns_2 : tie.Need-returns
 returns_2 c =
-    let put = c.before.before in
-    let k = put.before.before in
-    let s = k.before.before in
-    let r = ap Slots s.smaller.ensures ∙ sym (skip_some _ (waits s.before.before) _) in
-    (r, put.put_clock.ensures ∙ rw k.clock.ensures (sym (skip_clock _ _ (sym r))))
+    let r = ap Slots c.smaller-slots.ensures ∙ sym (skip_some _ (waits c.before.before.before.before.before.before) _) in
+    (r, c.put_clock.ensures ∙ rw c.clock-clock.ensures (sym (skip_clock _ _ (sym r))))
 
 pub skip_spec : {M : Type 1} → statement M
-skip_spec =
-    tie.close
-    (tie.spec
-    idle_requires
-    enum_known_waited
-    enum_told
-    same_length
-    returns
-    smaller_requires
-    clock_requires
-    add_put_clock
-    put_clock_requires
-    same_length_2
-    returns_2)
+skip_spec = tie.close (tie.spec idle_requires enum_known_waited enum_told same_length returns smaller_requires clock_requires add_put_clock put_clock_requires same_length_2 returns_2)

@@ -1,8 +1,8 @@
 -- `sound::all_listed` meets its contract: there are as many rows as places exactly if every place is a row.
 use Rattle.sound.proofs.Laws.Listed.{counted}
 use borrow.Author.Rules.{rules}
-use Rattle.sound.proofs.all_listed_lem.Statement.{statement}
-use Rattle.sound.proofs.all_listed_lem.Tie as tie
+use Rattle.sound.proofs.all_listed.Statement.{statement}
+use Rattle.sound.proofs.all_listed.Tie as tie
 
 all_rows_requires : tie.Need-all_rows-requires
 all_rows_requires c κs = search rules
