@@ -9,55 +9,37 @@ use Rattle.open.proofs.Early.{refused_early, passed_asks, passed_on}
 use Rattle.open.proofs.answer.Statement.{statement}
 use Rattle.open.proofs.answer.Tie as tie
 
-abbrev start : tie.After-early → tie.Start
-start c = c.before.before.before
+abbrev store : tie.After-early-checked → Store
+store c = c.args.store.now
 
-abbrev store : tie.After-early → Store
-store c = (start c).args.store.now
+abbrev request : tie.After-early-checked → Request
+request c = let a = c.args in record { c = a.c; p = a.p; d = a.d; b = a.b; route = a.route.now }
 
-abbrev request : tie.After-early → Request
-request c = let a = (start c).args in record { c = a.c; p = a.p; d = a.d; b = a.b; route = a.route.now }
-
-early_requires : tie.Need-early-requires
+early_requires : tie.Need-early-checked-requires
 early_requires c κs = search rules
 
-enum_known_checked : tie.Need-enum-known-checked
+enum_known_checked : tie.Need-enum_known-checked
 enum_known_checked c = search rules
 
 refused_requires : tie.Need-refused-requires
 refused_requires c κs = search rules
 
-enum_known_checked_2 : tie.Need-enum-known-checked-2
+enum_known_checked_2 : tie.Need-enum_known-checked-in-Passed-1
 enum_known_checked_2 c = search rules
 
 late_requires : tie.Need-late-requires
 late_requires c κs =
-    let a = c.before in
-    let t = a.before.before in
-    passed_on (store t) (request t) (sym t.early.ensures ∙ a.checked2.given.1)
+    passed_on (store c.before) (request c.before) (sym c.early-checked.ensures ∙ c.in-Passed.is)
 
-returns : tie.Need-returns
+returns : tie.Need-returns-in-Refused
 returns c =
-    let a = c.before.before in
-    let t = a.before.before in
     c.refused.ensures
-    ∙ answer_refused (store t) (request t) (refused_early (store t) (request t) (sym t.early.ensures ∙ a.checked.given.1))
+    ∙ answer_refused (store c.before.before) (request c.before.before) (refused_early (store c.before.before) (request c.before.before) (sym c.early-checked.ensures ∙ c.in-Refused.is))
 
-returns_2 : tie.Need-returns-2
+returns_2 : tie.Need-returns-in-Passed
 returns_2 c =
-    let a = c.before.before in
-    let t = a.before.before in
-    let asks = passed_asks (store t) (request t) (sym t.early.ensures ∙ a.checked2.given.1) in
-    c.late.ensures ∙ ap (open_answer (store t)) asks
+    let asks = passed_asks (store c.before.before) (request c.before.before) (sym c.early-checked.ensures ∙ c.in-Passed.is) in
+    c.late.ensures ∙ ap (open_answer (store c.before.before)) asks
 
 pub answer_spec : {M : Type 1} → statement M
-answer_spec =
-    tie.close
-    (tie.spec
-    early_requires
-    enum_known_checked
-    refused_requires
-    enum_known_checked_2
-    late_requires
-    returns
-    returns_2)
+answer_spec = tie.close (tie.spec early_requires enum_known_checked refused_requires enum_known_checked_2 late_requires returns returns_2)

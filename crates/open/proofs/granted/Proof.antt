@@ -15,71 +15,52 @@ use Rattle.open.proofs.Laws.{accepted_number, accepted_written}
 use Rattle.open.proofs.granted.Statement.{statement}
 use Rattle.open.proofs.granted.Tie as tie
 
-abbrev start : tie.After-late → tie.Start
-start c = c.before.before.before.before
+abbrev store : tie.After-late-opening → Store
+store c = c.args.store.now
 
-abbrev store : tie.After-late → Store
-store c = (start c).args.store.now
-
-abbrev request : tie.After-late → Request
-request c = asking (start c).args.asked (start c).args.route.now
+abbrev request : tie.After-late-opening → Request
+request c = asking c.args.asked c.args.route.now
 
 -- the outcome that the code reads is the definition's
-outcome : (c : tie.After-late) → c.late.result.outcome ≡ open_outcome (store c) (request c)
-outcome c = ap (λ o. o.outcome) c.late.ensures ∙ outcome_is (store c) (request c)
+outcome : (c : tie.After-late-opening) → c.late-opening.result.outcome ≡ open_outcome (store c) (request c)
+outcome c = ap (λ o. o.outcome) c.late-opening.ensures ∙ outcome_is (store c) (request c)
 
 -- a yes is to the number that was found
-accepted : (c : tie.After-enum-told)
-    → open_outcome (store c.before.before) (request c.before.before) ≡ Accepted (start c.before.before).args.x
+accepted : (c : tie.In-Accepted)
+    → open_outcome (store c.before) (request c.before) ≡ Accepted c.args.x
 accepted c =
-    let t = c.before.before in
-    let a = sym (outcome t) ∙ c.enum_told.given.1 in
-    a ∙ ap Accepted (accepted_number (store t) (request t) _ a ∙ sym (start t).requires.number)
+    let a = sym (outcome c.before) ∙ c.in-Accepted.is in
+    a ∙ ap Accepted (accepted_number (store c.before) (request c.before) _ a ∙ sym c.requires.number)
 
-late_requires : tie.Need-late-requires
+late_requires : tie.Need-late-opening-requires
 late_requires c κs = search rules
 
-enum_told : tie.Need-enum-told
+enum_told : tie.Need-enum_told-1
 enum_told c = search rules
 
 enter_requires : tie.Need-enter-requires
 enter_requires c κs =
-    let t = c.before.before.before.before.before in
-    let s = start t in
-    rw s.pre.number
-    (early_enterable (store t) (request t)
-    (early_is (store t) (request t) (accepted_all Refused _ _ _ (refused_accepted _) s.pre.early)))
+    rw c.requires.number
+    (early_enterable (store c.before.before.before) (request c.before.before.before)
+    (early_is (store c.before.before.before) (request c.before.before.before) (accepted_all Refused _ _ _ (refused_accepted _) c.requires.early)))
 
-enum_told_2 : tie.Need-enum-told-2
+enum_told_2 : tie.Need-enum_told-in_default
 enum_told_2 c = search rules
 
-same_length : tie.Need-same-length
+same_length : tie.Need-shape_of-store-in-Accepted
 same_length c = search rules
 
-returns : tie.Need-returns
+returns : tie.Need-returns-in-Accepted
 returns c =
-    let a = c.before.before.before.before.before.before in
-    let t = a.before.before in
-    let e = t.late.ensures in
-    (e, c.before.before.enter.ensures ∙ accepted_written (store t) (request t) _ (accepted a) _ (ap (λ o. o.delays) e))
+    let e = c.late-opening.ensures in
+    (e, c.enter.ensures ∙ accepted_written (store c.before.before.before.before.before.before) (request c.before.before.before.before.before.before) _ (accepted c.before.before.before.before.before) _ (ap (λ o. o.delays) e))
 
-same_length_2 : tie.Need-same-length-2
+same_length_2 : tie.Need-shape_of-store-in_default
 same_length_2 c = search rules
 
-returns_2 : tie.Need-returns-2
+returns_2 : tie.Need-returns-in_default
 returns_2 c =
-    let t = c.before.before in
-    (t.late.ensures, store_refused (store t) (request t) (sym (outcome t) ∙ c.enum_told2.given.1))
+    (c.late-opening.ensures, store_refused (store c.before) (request c.before) (sym (outcome c.before) ∙ c.in_default.is))
 
 pub granted_spec : {M : Type 1} → statement M
-granted_spec =
-    tie.close
-    (tie.spec
-    late_requires
-    enum_told
-    enter_requires
-    enum_told_2
-    same_length
-    returns
-    same_length_2
-    returns_2)
+granted_spec = tie.close (tie.spec late_requires enum_told enter_requires enum_told_2 same_length returns same_length_2 returns_2)

@@ -8,65 +8,43 @@ use Rattle.slot.proofs.Laws.{ran_sound, ran_before_end, ran_room, ran_picks, end
 use Rattle.slot.proofs.run.Statement.{statement}
 use Rattle.slot.proofs.run.Tie as tie
 
-abbrev start : tie.After-turn → tie.Start
-start c = c.before.before.before.before.before
-
 -- the slot runs
-ran : (c : tie.After-enum-told) → let s = start c.before.before in
-    slot_turn s.args.store.now (length s.args.out.now) ≡ Ran
-ran c = sym c.before.before.turn.ensures.0 ∙ c.enum_told.given.1
+ran : (c : tie.In_default) → slot_turn c.args.store.now (length c.args.out.now) ≡ Ran
+ran c = sym c.turn-turn.ensures.0 ∙ c.in_default.is
 
-turn_requires : tie.Need-turn-requires
+turn_requires : tie.Need-turn-turn-requires
 turn_requires c κs = search rules
 
-enum_known_turn : tie.Need-enum-known-turn
+enum_known_turn : tie.Need-enum_known-turn
 enum_known_turn c = search rules
 
-same_length : tie.Need-same-length
+same_length : tie.Need-shape_of-store-in-Refused
 same_length c = search rules
 
-returns : tie.Need-returns
+returns : tie.Need-returns-in-Refused
 returns c =
-    let t = c.before.before.before in
-    ends_refused _ _ _ _ (sym t.turn.ensures.0 ∙ c.before.turn2.given.1)
+    ends_refused _ _ _ _ (sym c.turn-turn.ensures.0 ∙ c.in-Refused.is)
 
-enum_told : tie.Need-enum-told
+enum_told : tie.Need-enum_told-1
 enum_told c = search rules
 
-report_requires : tie.Need-report-requires
+report_requires : tie.Need-report-sends-requires
 report_requires c κs =
-    let e = c.before.before.before in
-    (ran_sound _ _ (ran e), (e.before.before.turn.ensures.1 ∙ ran_picks _ _ (ran e) _, ran_room _ _ (ran e)))
+    (ran_sound _ _ (ran c.before.before), (c.turn-turn.ensures.1 ∙ ran_picks _ _ (ran c.before.before) _, ran_room _ _ (ran c.before.before)))
 
-move_on_requires : tie.Need-move-on-requires
+move_on_requires : tie.Need-move_on-requires
 move_on_requires c κs =
-    let e = c.before.before.before.before.before.before.before.before in
-    (ran_sound _ _ (ran e), (e.before.before.turn.ensures.1 ∙ ran_picks _ _ (ran e) _, ran_before_end _ _ (ran e)))
+    (ran_sound _ _ (ran c.before.before.before.before.before.before.before), (c.turn-turn.ensures.1 ∙ ran_picks _ _ (ran c.before.before.before.before.before.before.before) _, ran_before_end _ _ (ran c.before.before.before.before.before.before.before)))
 
-same_length_2 : tie.Need-same-length-2
+same_length_2 : tie.Need-shape_of-store
 same_length_2 c = search rules
 
-same_length_3 : tie.Need-same-length-3
+same_length_3 : tie.Need-shape_of-out
 same_length_3 c = search rules
 
-returns_2 : tie.Need-returns-2
+returns_2 : tie.Need-returns
 returns_2 c =
-    let m = c.before.before in
-    let r = m.before.before.before.before.before in
-    let e = r.before.before.before.before in
-    ends_ran _ _ (ran e) _ _ _ r.report.ensures.0 m.move_on.ensures r.report.ensures.1
+    ends_ran _ _ (ran c.before.before.before.before.before.before.before.before.before.before) _ _ _ c.report-sends.ensures.0 c.move_on.ensures c.report-sends.ensures.1
 
 pub run_spec : {M : Type 1} → statement M
-run_spec =
-    tie.close
-    (tie.spec
-    turn_requires
-    enum_known_turn
-    same_length
-    returns
-    enum_told
-    report_requires
-    move_on_requires
-    same_length_2
-    same_length_3
-    returns_2)
+run_spec = tie.close (tie.spec turn_requires enum_known_turn same_length returns enum_told report_requires move_on_requires same_length_2 same_length_3 returns_2)
