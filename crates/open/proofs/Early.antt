@@ -1,6 +1,6 @@
 -- What the checks before the search leave: where they are passed, the number of the new channel and the request, as values.
 use Prim.Native.Nat.{ℕ}
-use mathlib.Core.Path.{◌≡◌, sym, ◌∙◌}
+use mathlib.Core.Path.{◌≡◌, sym, subst, ◌∙◌}
 use native.Mathlib.Omega.{arith}
 use Rattle.kinds.specs.declared.Channel.{Channel}
 use Rattle.kinds.specs.declared.Route.{Route}
@@ -47,7 +47,9 @@ module _ (w : Store) (q : Request) {x : ℕ} {a : Channel} {r : Route} (e : chec
 
   pub passed_on : Passed w x a r q.route
   passed_on = record {
-    early = rw passed_asks (all_passed Refused (early_checks w q) (Accepted x) holds);
+    early =
+      subst (λ (y : Request). first_failed Refused (early_checks w y) (Accepted x) ≡ Accepted x) (sym passed_asks)
+      (all_passed Refused (early_checks w q) (Accepted x) holds);
     number = cc (same);
     hops_are = cc (same);
   }

@@ -16,7 +16,7 @@ loop_holds : tie.Need-loop-end-init invariant_loop decreases_loop
 loop_holds c = ticking_none _ _ _ _ c.requires
 
 clock_requires : tie.Need-clock-requires invariant_loop decreases_loop
-clock_requires c κs = omega (arith, c.clock-arg-then-left-eq0-1.given.0)
+clock_requires c κs = omega (arith, c.clock-arg-then-left-eq0-1.given)
 
 slice_aggregate_line : tie.Need-slice_bounds-line-end-then-left-eq0-2 invariant_loop decreases_loop
 slice_aggregate_line c = search rules
