@@ -16,7 +16,7 @@ use Rattle.promise.proofs.Packets.{every_between}
 use Rattle.promise.proofs.Invariant.{Invariant, IsMessage, as_opened, is_message_lem}
 use Rattle.promise.proofs.Opened.{none, known, own, inside, link_is, held_is, deadline_is}
 use Rattle.promise.proofs.Holds.{before}
-use Rattle.promise.proofs.Offer.{names_of}
+use Rattle.promise.proofs.Offer.{names_of_lem}
 
 module _ {links : List ℕ} {w : Store} {h : List Event} (i : Invariant links w h) where
   pub never_late : NeverLate links w h
@@ -42,5 +42,5 @@ module _ {links : List ℕ} {w : Store} {h : List Event} (i : Invariant links w 
             let a = arrived i.seen i.steady i.within i.logged x m (known i o) e.inside
             (omega (arith, e.time, d)) in
             rw (link_is i o (places o - 1) last, ← same, ← d)
-            (a.0 ∙ (rw size (sym (names_of m l k))), rw e.time at a.1),
+            (a.0 ∙ (rw size (sym (names_of_lem m l k))), rw e.time at a.1),
       )

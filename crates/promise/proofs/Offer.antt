@@ -35,11 +35,11 @@ use Rattle.promise.proofs.Invariant.{Invariant, IsMessage, EventIs, Timed, still
 use Rattle.promise.proofs.Events.{events_stay}
 
 -- the packets of a message by name, and their logical time
-pub names_of : (message logical k : ℕ) → map name_of (packets_of message logical k) ≡ names_of message k
+pub names_of_lem : (message logical k : ℕ) → map name_of (packets_of message logical k) ≡ names_of message k
 unfolding packets_of names_of
-names_of m l zero = refl
-names_of m l (suc k) =
-    map-append name_of (packets_of m l k) (record { message = m; packet = k; logical = l } ∷ []) ∙ rw (names_of m l k)
+names_of_lem m l zero = refl
+names_of_lem m l (suc k) =
+    map-append name_of (packets_of m l k) (record { message = m; packet = k; logical = l } ∷ []) ∙ rw (names_of_lem m l k)
 
 logicals_of : (P : Packet → Type 0) (message logical k : ℕ)
     → ((u : Packet) → u.message ≡ message → u.logical ≡ logical → P u) → Every P (packets_of message logical k)
@@ -100,7 +100,7 @@ module _ {links : List ℕ} {w : Store} {h : List Event} (i : Invariant links w 
           let size : accepted_of w x + packets - ended 0 (all x) ≡ packets = omega arith in
           rw (e, packets_new x h n time packets, new)
           (map-append name_of (packets_in h x) (packets_of n time packets)
-          ∙ (rw (i.names x, names_of n time packets, packets_more (all x) (message w x packets), size, ← number)))
+          ∙ (rw (i.names x, names_of_lem n time packets, packets_more (all x) (message w x packets), size, ← number)))
       go (no e) = rw (packets_same u h one ((λ f. e (sym f)), tt), same u e) (i.names u)
 
   timed : (u : ℕ) (y : Packet) → Timed (all u) y → Timed (more u) y

@@ -18,6 +18,7 @@ use Rattle.promise.specs.Happened.{Packet, name_of}
 
 -- what holds of each
 pub every_in : {A : Type 0} (P : A → Type 0) (xs : List A) → Every P xs → (u : A) → u ∈ xs → P u
+every_in P [] e u within = elim within [ ]
 every_in P (y ∷ xs) e u (Memᴰ.head same) = subst P (sym same) e.0
 every_in P (y ∷ xs) e u (Memᴰ.tail m) = every_in P xs e.1 u m
 

@@ -4,39 +4,30 @@ use borrow.Author.Rules.{rules}
 use Rattle.byanghosu.proofs.byanghosu_open.Statement.{statement}
 use Rattle.byanghosu.proofs.byanghosu_open.Tie as tie
 
-open_requires : tie.Need-open-requires
+open_requires : tie.Need-open-opening-requires
 open_requires c κs = search rules
 
-enum_known_outcome : tie.Need-enum-known-outcome
+enum_known_outcome : tie.Need-enum_known-outcome
 enum_known_outcome c = search rules
 
-enum_known_outcome_2 : tie.Need-enum-known-outcome-2
+enum_known_outcome_2 : tie.Need-enum_known-outcome-in-Refused-1
 enum_known_outcome_2 c = search rules
 
-same_length : tie.Need-same-length
+same_length : tie.Need-shape_of-store-in-Accepted
 same_length c = search rules
 
-returns : tie.Need-returns
+returns : tie.Need-returns-in-Accepted
 returns c =
-    let call = c.before.before.before.before.before.before.before.before.«open» in
-    (values_accepted _ _ _ call.ensures.0 c.before.outcome.given.1, call.ensures.1)
+    let call = c.open-opening in
+    (values_accepted _ _ _ call.ensures.0 c.in-Accepted.is, call.ensures.1)
 
-same_length_2 : tie.Need-same-length-2
+same_length_2 : tie.Need-shape_of-store-in-Refused
 same_length_2 c = search rules
 
-returns_2 : tie.Need-returns-2
+returns_2 : tie.Need-returns-in-Refused
 returns_2 c =
-    let call = c.before.before.before.before.before.before.before.before.«open» in
-    (values_refused _ _ _ call.ensures.0 c.before.outcome2.given.1, call.ensures.1)
+    let call = c.open-opening in
+    (values_refused _ _ _ call.ensures.0 c.in-Refused.is, call.ensures.1)
 
 pub byanghosu_open_spec : {M : Type 1} → statement M
-byanghosu_open_spec =
-    tie.close
-    (tie.spec
-    open_requires
-    enum_known_outcome
-    enum_known_outcome_2
-    same_length
-    returns
-    same_length_2
-    returns_2)
+byanghosu_open_spec = tie.close (tie.spec open_requires enum_known_outcome enum_known_outcome_2 same_length returns same_length_2 returns_2)

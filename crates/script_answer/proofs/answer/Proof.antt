@@ -10,94 +10,89 @@ use Rattle.script_answer.proofs.Ends.{asked_ends, asked_bad, not_small}
 use Rattle.script_answer.proofs.answer.Statement.{statement}
 use Rattle.script_answer.proofs.answer.Tie as tie
 
-enum_known_asked : tie.Need-enum-known-asked
+enum_known_asked : tie.Need-enum_known-asked
 enum_known_asked c = search rules
 
 open_requires : tie.Need-open-requires
 open_requires c κs =
-    let known = c.before.before.before.before in
-    let fits : 4 + known.asked.given.0.0 ≤ 128 = rw known.asked.given.1 at known.before.before.requires.0 in
+    let fits : 4 + c.in-Open.hops ≤ 128 = rw c.in-Open.is at c.requires.0 in
     (omega (arith, fits), omega arith)
 
-enum_told : tie.Need-enum-told
+enum_told : tie.Need-enum_told-1
 enum_told c = search rules
 
-element_copy_out_offer : tie.Need-element-copy-out-offer
+element_copy_out_offer : tie.Need-bounds-numbers-0
 element_copy_out_offer c = search rules
 
-element_copy_out_offer_2 : tie.Need-element-copy-out-offer-2
+element_copy_out_offer_2 : tie.Need-bounds-numbers-1
 element_copy_out_offer_2 c = search rules
 
 offer_requires : tie.Need-offer-requires
 offer_requires c κs = search rules
 
-enum_told_2 : tie.Need-enum-told-2
+enum_told_2 : tie.Need-enum_told-in-Tick
 enum_told_2 c = search rules
 
-put_bad_requires : tie.Need-put-bad-requires
+put_bad_requires : tie.Need-put_bad-requires
 put_bad_requires c κs = search rules
 
-returns : tie.Need-returns
+returns : tie.Need-returns-in-Open
 returns c =
-    let start = c.before.before.before.before.before.before.before in
-    let call = c.«open».ensures in
+    let call = c.open.ensures in
     asked_ends
-    start.args.at
-    start.args.out.now
-    start.args.store.now
-    start.args.numbers.now
-    start.args.count
-    start.args.asked
+    c.args.at
+    c.args.out.now
+    c.args.store.now
+    c.args.numbers.now
+    c.args.count
+    c.args.asked
     (Open _)
-    c.before.before.before.before.before.asked.given.1
+    c.in-Open.is
     call.0
     call.1.0
     call.1.1
 
-returns_2 : tie.Need-returns-2
+returns_2 : tie.Need-returns-in-Offer
 returns_2 c =
-    let start = c.before.before.before.before.before.before.before in
     let call = c.offer.ensures in
     asked_ends
-    start.args.at
-    start.args.out.now
-    start.args.store.now
-    start.args.numbers.now
-    start.args.count
-    start.args.asked
+    c.args.at
+    c.args.out.now
+    c.args.store.now
+    c.args.numbers.now
+    c.args.count
+    c.args.asked
     Offer
-    c.before.before.before.before.before.enum_told.given.1
+    c.in-Offer.is
     call.0
     call.1.0
     call.1.1
 
-returns_3 : tie.Need-returns-3
+returns_3 : tie.Need-returns-in-Tick
 returns_3 c =
-    let start = c.before.before in
     asked_ends
-    start.args.at
-    start.args.out.now
-    start.args.store.now
-    start.args.numbers.now
-    start.args.count
-    start.args.asked
+    c.args.at
+    c.args.out.now
+    c.args.store.now
+    c.args.numbers.now
+    c.args.count
+    c.args.asked
     Tick
-    c.enum_told2.given.1
-    (sym (add-zero start.args.at))
+    c.in-Tick.is
+    (sym (add-zero c.args.at))
     refl
-    (sym (put_none start.args.out.now start.args.at))
+    (sym (put_none c.args.out.now c.args.at))
 
-returns_4 : tie.Need-returns-4
+returns_4 : tie.Need-returns-in-Link
 returns_4 c =
-    let start = c.before.before.before in
-    let told = c.before.before.match.keys4 in
+    let told = c.in-Link.in-Link-own.keys4 in
     asked_bad
-    start.args.at
-    start.args.out.now
-    start.args.store.now
-    start.args.numbers.now
-    start.args.count
-    start.args.asked
+    c.args.at
+    c.args.out.now
+    c.args.store.now
+    c.args.numbers.now
+    c.args.count
+    c.args.asked
     (λ hops e. not_small 2 (omega arith) (rw e at told))
     (λ e. not_small 3 (omega arith) (rw e at told))
     (λ e. not_small 4 (omega arith) (rw e at told))
@@ -105,18 +100,4 @@ returns_4 c =
     c.put_bad.ensures.1
 
 pub answer_spec : {M : Type 1} → statement M
-answer_spec =
-    tie.close
-    (tie.spec
-    enum_known_asked
-    open_requires
-    enum_told
-    element_copy_out_offer
-    element_copy_out_offer_2
-    offer_requires
-    enum_told_2
-    put_bad_requires
-    returns
-    returns_2
-    returns_3
-    returns_4)
+answer_spec = tie.close (tie.spec enum_known_asked open_requires enum_told element_copy_out_offer element_copy_out_offer_2 offer_requires enum_told_2 put_bad_requires returns returns_2 returns_3 returns_4)

@@ -4,11 +4,8 @@ use borrow.Author.Rules.{rules}
 use Rattle.script_answer.proofs.put_bad.Statement.{statement}
 use Rattle.script_answer.proofs.put_bad.Tie as tie
 
-slice_aggregate_line : tie.Need-slice-aggregate-line
+slice_aggregate_line : tie.Need-slice_bounds-line-end-3
 slice_aggregate_line c = search rules
-
-slice_aggregate_line_2 : tie.Need-slice-aggregate-line-2
-slice_aggregate_line_2 c = search rules
 
 line_requires : tie.Need-line-requires
 line_requires c κs = omega arith
@@ -17,5 +14,4 @@ returns : tie.Need-returns
 returns c = search rules
 
 pub put_bad_spec : {M : Type 1} → statement M
-put_bad_spec =
-    tie.close (tie.spec slice_aggregate_line slice_aggregate_line_2 line_requires returns)
+put_bad_spec = tie.close (tie.spec slice_aggregate_line line_requires returns)
