@@ -10,106 +10,79 @@ use Rattle.script_play.proofs.Ends.{ends}
 use Rattle.script_play.proofs.set_up.Statement.{statement}
 use Rattle.script_play.proofs.set_up.Tie as tie
 
-looked_at_requires : tie.Need-looked-at-requires
+looked_at_requires : tie.Need-looked_at-whole-requires
 looked_at_requires c κs = search rules
 
-mul_set_up : tie.Need-overflow-mul-set-up
+mul_set_up : tie.Need-overflow_mul-whole
 mul_set_up c = search rules
 
-slice_aggregate_set_up : tie.Need-slice-aggregate-set-up
+slice_aggregate_set_up : tie.Need-slice_bounds-set_up-end-2
 slice_aggregate_set_up c =
-    let looked = c.before.before in
-    let start = looked.before.before.before in
-    looked_length _ start.args.n _ start.requires.0 looked.looked_at.ensures
+    looked_length _ c.args.n _ c.requires.0 c.looked_at-whole.ensures
 
-set_up_requires : tie.Need-set-up-requires
+set_up_requires : tie.Need-set_up-answer-requires
 set_up_requires c κs = search rules
 
-enum_told : tie.Need-enum-told
+enum_told : tie.Need-enum_told-1
 enum_told c = search rules
 
-slice_aggregate_line : tie.Need-slice-aggregate-line
+slice_aggregate_line : tie.Need-slice_bounds-line-end-in-Ready
 slice_aggregate_line c = search rules
 
-slice_aggregate_line_2 : tie.Need-slice-aggregate-line-2
-slice_aggregate_line_2 c = search rules
-
-line_requires : tie.Need-line-requires
+line_requires : tie.Need-line-end-requires
 line_requires c κs = omega arith
 
-enum_known_answer : tie.Need-enum-known-answer
+enum_known_answer : tie.Need-enum_known-answer
 enum_known_answer c = search rules
 
-put_refused_requires : tie.Need-put-refused-requires
+put_refused_requires : tie.Need-put_refused-end-requires
 put_refused_requires c κs = search rules
 
-same_length : tie.Need-same-length
+same_length : tie.Need-shape_of-out-in-Ready
 same_length c = search rules
 
-returns : tie.Need-returns
+returns : tie.Need-returns-in-Ready
 returns c =
-    let set = c.before.before.before.before.before.before.before.before in
-    let looked = set.before.before.before in
-    let start = looked.before.before.before in
-    let w = start.args.store.now in
-    let links = start.args.links.now in
-    let n = start.args.n in
-    let call = set.set_up in
-    let same = started_as links n _ start.requires.0 looked.looked_at.ensures w call.ensures.0 call.ensures.1 in
-    let answer = c.before.before.before.before.before.before.enum_told.given.1 in
-    let known = ap (λ (a : SetUp). started_on a call.new.0 n) answer in
-    let put = c.before.before.line.ensures in
+    let w = c.args.store.now in
+    let links = c.args.links.now in
+    let n = c.args.n in
+    let call = c.set_up-answer in
+    let same = started_as links n _ c.requires.0 c.looked_at-whole.ensures w call.ensures.0 call.ensures.1 in
+    let answer = c.in-Ready.is in
+    let known = ap (λ (a : SetUp). started_on a call.new.store n) answer in
+    let put = c.line-end.ensures in
     ends
-    start.args.at
-    start.args.out.now
+    c.args.at
+    c.args.out.now
     (started w links n)
-    (started_on Ready call.new.0 n)
+    (started_on Ready call.new.store n)
     (same ∙ known)
     put.0
     refl
     put.1
 
-same_length_2 : tie.Need-same-length-2
+same_length_2 : tie.Need-shape_of-out-in-Refused
 same_length_2 c = search rules
 
-returns_2 : tie.Need-returns-2
+returns_2 : tie.Need-returns-in-Refused
 returns_2 c =
-    let set = c.before.before.before.before.before.before.before in
-    let looked = set.before.before.before in
-    let start = looked.before.before.before in
-    let w = start.args.store.now in
-    let links = start.args.links.now in
-    let n = start.args.n in
-    let call = set.set_up in
-    let same = started_as links n _ start.requires.0 looked.looked_at.ensures w call.ensures.0 call.ensures.1 in
-    let answer = c.before.before.before.before.before.answer.given.1 in
-    let known = ap (λ (a : SetUp). started_on a call.new.0 n) answer in
-    let put = c.before.before.Put-refused.ensures in
+    let w = c.args.store.now in
+    let links = c.args.links.now in
+    let n = c.args.n in
+    let call = c.set_up-answer in
+    let same = started_as links n _ c.requires.0 c.looked_at-whole.ensures w call.ensures.0 call.ensures.1 in
+    let answer = c.in-Refused.is in
+    let known = ap (λ (a : SetUp). started_on a call.new.store n) answer in
+    let put = c.put_refused-end.ensures in
     ends
-    start.args.at
-    start.args.out.now
+    c.args.at
+    c.args.out.now
     (started w links n)
-    (started_on (Refused _ _) call.new.0 n)
+    (started_on (Refused _ _) call.new.store n)
     (same ∙ known)
     put.0
     refl
     put.1
 
 pub set_up_spec : {M : Type 1} → statement M
-set_up_spec =
-    tie.close
-    (tie.spec
-    looked_at_requires
-    mul_set_up
-    slice_aggregate_set_up
-    set_up_requires
-    enum_told
-    slice_aggregate_line
-    slice_aggregate_line_2
-    line_requires
-    enum_known_answer
-    put_refused_requires
-    same_length
-    returns
-    same_length_2
-    returns_2)
+set_up_spec = tie.close (tie.spec looked_at_requires mul_set_up slice_aggregate_set_up set_up_requires enum_told slice_aggregate_line line_requires enum_known_answer put_refused_requires same_length returns same_length_2 returns_2)
