@@ -40,12 +40,12 @@ fed_lines (b ∷ before) rest = refl
 
 module _ (phase : Phase) (links : List ℕ) (lines : ℕ) where
   -- a piece of a tick
-  pub tick_rest : (n left : ℕ) (over : Bool) (w later : Store) (part before rest : Text)
+  pub tick_rest_lem : (n left : ℕ) (over : Bool) (w later : Store) (part before rest : Text)
       → tick_out w n ≡ part ++ tick_rest over later left → tick_store w n ≡ rest_store over later left
       → rest_out phase (Slots n) w links lines before rest
       ≡ part ++ rest_out phase (after_tick over left) later links lines before rest
   unfolding rest_out
-  tick_rest n left over w later part before rest e f =
+  tick_rest_lem n left over w later part before rest e f =
       rw (e, f, after_out over left later, after_store over left later, append_assoc)
 
   -- a line whose line feed has come

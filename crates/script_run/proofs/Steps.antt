@@ -29,7 +29,7 @@ use Rattle.script_run.specs.declared.Wants.TheVariants.{Room, Chunk, Nothing}
 use Rattle.script_run.specs.Listing.{counted, rest_out}
 use Rattle.script_run.specs.Run.{run_out, owed, State, rest_of, coming, Goes}
 use Rattle.script_run.proofs.Laws.{rest_last, rest_end}
-use Rattle.script_run.proofs.Rest.{after_tick, tick_rest, line_rest, unfed_rest, fed_rest, over_rest}
+use Rattle.script_run.proofs.Rest.{after_tick, tick_rest_lem, line_rest, unfed_rest, fed_rest, over_rest}
 
 -- a part of a buffer behind what stands before it
 take_part : (all : List ℕ) (at end : ℕ) → at ≤ end → take at all ++ part_of all at end ≡ take end all
@@ -53,7 +53,7 @@ pub piece_owed : (run : Run) (n left : ℕ) (over b : Bool) (w later : Store) (o
 piece_owed run n left over b w later out after end e o t s f h links text rest =
     put_behind out after run.at end (part_of after run.at end) _ _
     (sym (take_part after run.at end h) ∙ rw f)
-    (rw (e, ← o) (tick_rest run.phase links run.lines n left over w later (part_of after run.at end) _ rest t s))
+    (rw (e, ← o) (tick_rest_lem run.phase links run.lines n left over w later (part_of after run.at end) _ rest t s))
 
 -- A line whose line feed has come.
 pub line_owed : (run : Run) (w later : Store) (links heard text out after : List ℕ) (count : ℕ) (r : Played)

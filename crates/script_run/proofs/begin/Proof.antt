@@ -14,12 +14,10 @@ slots_requires c κs = search rules
 
 returns : tie.Need-returns
 returns c =
-    let w = c.before.before.before in
-    let s = w.before.before in
     let e = c.slots.ensures in (
       λ links rest.
-          least_rest s.args.run _ links s.args.text.now rest _ w.least.ensures ∙ e.0 links _ rest,
-      (e.1.1.1, (omega (arith, e.1.1.0.0, w.least.ensures), (e.1.0, e.1.1.0.1))),
+          least_rest c.args.run _ links c.args.text.now rest _ c.least.ensures ∙ e.0 links _ rest,
+      (e.1.1.1, (omega (arith, e.1.1.0.0, c.least.ensures), (e.1.0, e.1.1.0.1))),
     )
 
 pub begin_spec : {M : Type 1} → statement M

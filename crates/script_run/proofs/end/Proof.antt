@@ -10,38 +10,34 @@ use Rattle.script_run.proofs.Steps.{number, full_part, end_owed}
 use Rattle.script_run.proofs.end.Statement.{statement}
 use Rattle.script_run.proofs.end.Tie as tie
 
-last_line_requires : tie.Need-last-line-requires
+last_line_requires : tie.Need-last_line-after-requires
 last_line_requires c κs = search rules
 
-has_room_requires : tie.Need-has-room-requires
+has_room_requires : tie.Need-has_room-requires
 has_room_requires c κs = search rules
 
-returns : tie.Need-returns
+returns : tie.Need-returns-then-not-has_room
 returns c =
-    let r = c.before in
-    let e = r.before.before.before.last_line.ensures in
-    let past = r.has_room.ensures.1 c.if1.true in
-    let full = full_part _ _ past e.1.0 r.before.has_room_arg2.given.0 in (
+    let e = c.last_line-after.ensures in
+    let past = c.has_room.ensures.1 c.if-not-has_room.true in
+    let full = full_part _ _ past e.1.0 c.has_room-arg-2-1.given in (
       e.0,
       (e.1.0, (λ h. full, (λ h. omega (arith, ap number h), λ h. absurd (omega (arith, ap number h))))),
     )
 
-finish_requires : tie.Need-finish-requires
+finish_requires : tie.Need-finish-at-requires
 finish_requires c κs =
-    let t = c.before.before.before in
-    t.before.has_room.ensures.0 t.if1.false
+    c.has_room.ensures.0 c.if-not-has_room.false
 
-returns_2 : tie.Need-returns-2
+returns_2 : tie.Need-returns
 returns_2 c =
-    let t = c.before.before.before.before in
-    let l = t.before.before.before.before in
-    let e = l.last_line.ensures in
-    let f = c.finish.ensures in
-    let room = t.before.has_room.ensures.0 t.if1.false in
-    let at : l.last_line.result.at ≤ length l.last_line.new.1.1.1.1.0 =
-    omega (arith, room, t.before.before.has_room_arg2.given.0) in (
+    let e = c.last_line-after.ensures in
+    let f = c.finish-at.ensures in
+    let room = c.has_room.ensures.0 c.if-not-has_room.false in
+    let at : c.last_line-after.result.at ≤ length c.last_line-after.new.out =
+    omega (arith, room, c.has_room-arg-2-1.given) in (
       e.0
-          ∙ end_owed _ _ l.last_line.result _ _ _ _ (e.1.1 room).0 (e.1.1 room).1 at f.0 f.1.1 _ _ _,
+          ∙ end_owed _ _ c.last_line-after.result _ _ _ _ (e.1.1 room).0 (e.1.1 room).1 at f.0 f.1.1 _ _ _,
       (
         ended_fits _ _ _ _ _ room f.0,
         (

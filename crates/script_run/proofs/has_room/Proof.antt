@@ -7,7 +7,7 @@ use borrow.Author.Tests.{leb-true, leb-false}
 use Rattle.script_run.proofs.has_room.Statement.{statement}
 use Rattle.script_run.proofs.has_room.Tie as tie
 
-sub_result : tie.Need-overflow-sub-result
+sub_result : tie.Need-overflow_sub-result
 sub_result c = search rules
 
 returns : tie.Need-returns

@@ -10,23 +10,22 @@ use Rattle.script_run.proofs.Steps.{line_owed}
 use Rattle.script_run.proofs.kept_line.Statement.{statement}
 use Rattle.script_run.proofs.kept_line.Tie as tie
 
-count_requires : tie.Need-count-requires
+count_requires : tie.Need-count-lines-requires
 count_requires c κs = search rules
 
-slice_aggregate_line : tie.Need-slice-aggregate-line
-slice_aggregate_line c = sym (length-take-le _ _ c.before.before.before.before.before.requires.1.0)
+slice_aggregate_line : tie.Need-slice_bounds-line-end
+slice_aggregate_line c = sym (length-take-le _ _ c.requires.1.0)
 
-line_requires : tie.Need-line-requires
+line_requires : tie.Need-line-played-requires
 line_requires c κs = search rules
 
 returns : tie.Need-returns
 returns c =
-    let s = c.before.before.before.before.before.before.before in
-    let at = s.requires.1.1.0 in
-    let h : s.args.run.at ≤ length s.args.out.now = omega (arith, at, s.requires.1.1.1) in
-    let e = c.line.ensures in (
-      line_owed s.args.run _ _ _ _ s.args.text.now _ _ _ _ s.requires.0 h
-          c.before.before.before.before.before.count.ensures e.0 e.1.0 e.1.1.0 e.1.1.1,
+    let at = c.requires.1.1.0 in
+    let h : c.args.run.at ≤ length c.args.out.now = omega (arith, at, c.requires.1.1.1) in
+    let e = c.line-played.ensures in (
+      line_owed c.args.run _ _ _ _ c.args.text.now _ _ _ _ c.requires.0 h
+          c.count-lines.ensures e.0 e.1.0 e.1.1.0 e.1.1.1,
       (played_fits _ _ _ _ _ _ _ at e.0, (refl, refl)),
     )
 

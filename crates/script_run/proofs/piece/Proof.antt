@@ -6,25 +6,23 @@ use Rattle.script_run.proofs.Steps.{piece_owed}
 use Rattle.script_run.proofs.piece.Statement.{statement}
 use Rattle.script_run.proofs.piece.Tie as tie
 
-tick_requires : tie.Need-tick-requires
+tick_requires : tie.Need-tick-ticked-requires
 tick_requires c κs = search rules
 
-returns : tie.Need-returns
+returns : tie.Need-returns-then-ticked
 returns c =
-    let t = c.before.tick.ensures in
-    let s = c.before.before.before.before in
-    let next = s.requires.0 in (
-      piece_owed s.args.run _ _ _ _ _ _ _ _ _ next c.if1.true t.0 t.1.0 t.1.1.0 t.1.1.1.0.0,
+    let t = c.tick-ticked.ensures in
+    let next = c.requires.0 in (
+      piece_owed c.args.run _ _ _ _ _ _ _ _ _ next c.if-ticked.true t.0 t.1.0 t.1.1.0 t.1.1.1.0.0,
       (t.1.1.1.0.1, ((refl, refl), pending_over _ next)),
     )
 
-returns_2 : tie.Need-returns-2
+returns_2 : tie.Need-returns
 returns_2 c =
-    let t = c.before.tick.ensures in
-    let s = c.before.before.before.before in
-    let next = s.requires.0 in (
-      piece_owed s.args.run _ _ _ _ _ _ _ _ _ next c.if1.false t.0 t.1.0 t.1.1.0 t.1.1.1.0.0,
-      (t.1.1.1.0.1, ((refl, refl), pending_less _ next (t.1.1.1.1 c.if1.false))),
+    let t = c.tick-ticked.ensures in
+    let next = c.requires.0 in (
+      piece_owed c.args.run _ _ _ _ _ _ _ _ _ next c.if-ticked.false t.0 t.1.0 t.1.1.0 t.1.1.1.0.0,
+      (t.1.1.1.0.1, ((refl, refl), pending_less _ next (t.1.1.1.1 c.if-ticked.false))),
     )
 
 pub piece_spec : {M : Type 1} → statement M
