@@ -30,8 +30,7 @@ fn play(
         let end = before.at;
         let part: &[u8] = out;
         rt.write_all(&part[..end])?;
-        let wants = after.wants;
-        let Wants::Room = wants else {
+        let Wants::Room = after.wants else {
             return Ok(after);
         };
     }
@@ -59,8 +58,7 @@ fn main(rt: HostRuntime) -> io::Result<()> {
             run,
             &mut out,
         )?;
-        let wants = after.wants;
-        let Wants::Chunk = wants else {
+        let Wants::Chunk = after.wants else {
             return Ok(());
         };
         run = after.run;
