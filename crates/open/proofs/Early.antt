@@ -48,8 +48,8 @@ module _ (w : Store) (q : Request) {x : ℕ} {a : Channel} {r : Route} (e : chec
   pub passed_on : Passed w x a r q.route
   passed_on = record {
     early =
-      subst (λ (y : Request). first_failed Refused (early_checks w y) (Accepted x) ≡ Accepted x) (sym passed_asks)
-      (all_passed Refused (early_checks w q) (Accepted x) holds);
+        subst (λ (y : Request). first_failed Refused (early_checks w y) (Accepted x) ≡ Accepted x) (sym passed_asks)
+        (all_passed Refused (early_checks w q) (Accepted x) holds);
     number = cc (same);
     hops_are = cc (same);
   }

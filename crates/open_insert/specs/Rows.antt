@@ -3,7 +3,6 @@
 use Rattle.std.specs.Prelude.{ℕ, ◌<◌}
 use Rattle.kinds.specs.Ranges.{most_links, most_channels, most_hops, most_rows}
 use Rattle.store.specs.Layout.{Store, Long, rows_of, row_channel_of, row_place_of}
-use Rattle.open_rules.specs.Request.{link}
 
 -- link l has room for one more row, and its rows are channels at places
 pub record Rows (w : Store) (l : ℕ) : Type 0 where

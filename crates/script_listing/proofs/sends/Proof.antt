@@ -1,6 +1,5 @@
 -- `script_listing::sends` meets its contract: the lines of the sends passed stand in the buffer.
 use Prim.Native.Nat.{◌-◌, ◌≤◌}
-use mathlib.Core.Path.{refl}
 use native.Mathlib.Omega.{arith}
 use Rattle.script_listing.specs.Listing.{send_lines_in}
 use Rattle.script_listing.proofs.Putting.{Putting, putting_size}

@@ -41,18 +41,17 @@ returns_3 c =
     c.end.ensures c.c.ensures (held c.time_fits.ensures c.if-not-time_fits.false) c.if-end-c.true
 
 in_order_requires : tie.Need-in_order-requires
-in_order_requires c κs =
+in_order_requires c κs = (
+  c.requires.0,
+  (
+    c.requires.1.0,
     (
-      c.requires.0,
-      (
-        c.requires.1.0,
-        (
-          few c.args.store.now c.args.x _ c.messages-n.ensures
-              (held c.is_number.ensures c.if-not-is_number.false),
-          (c.requires.1.1.1.0, c.requires.1.1.1.1.0),
-        ),
-      ),
-    )
+      few c.args.store.now c.args.x _ c.messages-n.ensures
+          (held c.is_number.ensures c.if-not-is_number.false),
+      (c.requires.1.1.1.0, c.requires.1.1.1.1.0),
+    ),
+  ),
+)
 
 returns_4 : tie.Need-returns
 returns_4 c =

@@ -34,20 +34,18 @@ shared_slice_read_before : tie.Need-bounds-numbers-at-2
 shared_slice_read_before c = search rules
 
 from_requires : tie.Need-from-requires
-from_requires c κs =
-    (
-      c.requires.0,
-      link_bound c.args.store.now (from c.args.numbers.now c.args.at) (c.args.j + 1) c.requires.1.1.0
-          c.requires.1.1.1 c.args.j (omega arith),
-    )
+from_requires c κs = (
+  c.requires.0,
+  link_bound c.args.store.now (from c.args.numbers.now c.args.at) (c.args.j + 1) c.requires.1.1.0
+      c.requires.1.1.1 c.args.j (omega arith),
+)
 
 to_requires : tie.Need-to-requires
-to_requires c κs =
-    (
-      c.requires.0,
-      link_bound c.args.store.now (from c.args.numbers.now c.args.at) (c.args.j + 1) c.requires.1.1.0
-          c.requires.1.1.1 (c.args.j - 1) (omega arith),
-    )
+to_requires c κs = (
+  c.requires.0,
+  link_bound c.args.store.now (from c.args.numbers.now c.args.at) (c.args.j + 1) c.requires.1.1.0
+      c.requires.1.1.1 (c.args.j - 1) (omega arith),
+)
 
 returns_2 : tie.Need-returns
 returns_2 c =

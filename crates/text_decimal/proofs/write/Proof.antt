@@ -69,11 +69,10 @@ same_length c =
     (written_length c.args.out.now c.args.at c.args.n c.requires _ _ _ c.loop-rest.invariant)
 
 returns : tie.Need-returns invariant_loop decreases_loop
-returns c =
-    (
-      ap (λ (k : ℕ). c.args.at + k) c.digits.ensures,
-      written_done c.args.out.now c.args.at c.args.n c.requires _ _ _ c.loop-rest.invariant c.loop-rest-test.false,
-    )
+returns c = (
+  ap (λ (k : ℕ). c.args.at + k) c.digits.ensures,
+  written_done c.args.out.now c.args.at c.args.n c.requires _ _ _ c.loop-rest.invariant c.loop-rest-test.false,
+)
 
 pub write_spec : {M : Type 1} → statement M
 write_spec = tie.close (tie.spec invariant_loop decreases_loop digits_requires add_end sub_i loop_holds cast_out add_out slice_write_out sub_i_2 loop_less loop_again cast_out_2 add_out_2 slice_write_out_2 same_length returns)
