@@ -1,4 +1,4 @@
-// What the router's control board calls, from C: numbers and lent buffers only. include/byanghosu.h declares it.
+// What the router's control board calls, from C: numbers and lent buffers only. Crate byanghosu_c exports it.
 // A call that can be refused returns the refusal number of document 01, or 0 where it ran, and a refused call writes no output
 // but `place` and, of an open, the numbers per link, which are then 0; a slot gives back its sends, and its number is lent, as
 // document 01 has it.
@@ -21,8 +21,7 @@ use setup::SetUp;
 use slot_rules::Waited;
 
 // The response-time calculation by itself. `table` has C, p and delay of each row in turn, highest priority first.
-#[unsafe(no_mangle)]
-pub extern "C" fn byanghosu_response(
+pub fn byanghosu_response(
     table: &[u64],
     own: u64,
     limit: u64,
@@ -62,8 +61,7 @@ pub extern "C" fn byanghosu_response(
 }
 
 // Network set-up in the lent store. `links` has from, to, horizon and buffer of each link in turn.
-#[unsafe(no_mangle)]
-pub extern "C" fn byanghosu_set_up(store: &mut [u64], links: &[u64], place: &mut u64) -> u64
+pub fn byanghosu_set_up(store: &mut [u64], links: &[u64], place: &mut u64) -> u64
     ensures place_after { record { number = result; place = place.new }
         ≡ set_up_values (set_up_answer store.old links.now) }
     ensures store_after { store.new ≡ set_up_store store.old links.now }
@@ -83,8 +81,7 @@ pub extern "C" fn byanghosu_set_up(store: &mut [u64], links: &[u64], place: &mut
 
 // Opens a channel. `responses`, `delays` and `reserved` take the numbers of each link along the route, 0 past its end and all 0
 // on a refusal; `channel` takes the channel's number where it was opened.
-#[unsafe(no_mangle)]
-pub extern "C" fn byanghosu_open(
+pub fn byanghosu_open(
     store: &mut [u64],
     c: u64,
     p: u64,
@@ -132,8 +129,7 @@ pub extern "C" fn byanghosu_open(
 }
 
 // Offers a message of so many packets. `message` takes its number, from 0, and `logical` its logical time, where it was accepted.
-#[unsafe(no_mangle)]
-pub extern "C" fn byanghosu_offer(
+pub fn byanghosu_offer(
     store: &mut [u64],
     channel: u64,
     packets: u64,
@@ -167,8 +163,7 @@ pub extern "C" fn byanghosu_offer(
 
 // Runs a slot and returns the number of its sends, which stand at the front of `out`, five numbers each; `number` and `place`
 // take those of the refusal, or 0 and 0.
-#[unsafe(no_mangle)]
-pub extern "C" fn byanghosu_slot(
+pub fn byanghosu_slot(
     store: &mut [u64],
     out: &mut [u64],
     number: &mut u64,
@@ -202,8 +197,7 @@ fn told(waited: Waited, slots: &mut u64, place: &mut u64) -> u64
 }
 
 // How many slots from now no link can send in, if nothing is offered.
-#[unsafe(no_mangle)]
-pub extern "C" fn byanghosu_idle(store: &[u64], slots: &mut u64, place: &mut u64) -> u64
+pub fn byanghosu_idle(store: &[u64], slots: &mut u64, place: &mut u64) -> u64
     ensures { record { number = result; place = place.new; slots = slots.new }
         ≡ waited_values (idle_answer store.now) slots.old }
 {
@@ -212,8 +206,7 @@ pub extern "C" fn byanghosu_idle(store: &[u64], slots: &mut u64, place: &mut u64
 }
 
 // Moves the clock on over such slots, `n` of them or as many as there are; `slots` takes how many.
-#[unsafe(no_mangle)]
-pub extern "C" fn byanghosu_skip(store: &mut [u64], n: u64, slots: &mut u64, place: &mut u64) -> u64
+pub fn byanghosu_skip(store: &mut [u64], n: u64, slots: &mut u64, place: &mut u64) -> u64
     ensures slots_after { record { number = result; place = place.new; slots = slots.new }
         ≡ waited_values (skip_answer store.old n) slots.old }
     ensures store_after { store.new ≡ skip_store store.old n }
@@ -223,8 +216,7 @@ pub extern "C" fn byanghosu_skip(store: &mut [u64], n: u64, slots: &mut u64, pla
 }
 
 // Whether a store is sound. Every other call asks this by itself.
-#[unsafe(no_mangle)]
-pub extern "C" fn byanghosu_sound(store: &[u64]) -> bool
+pub fn byanghosu_sound(store: &[u64]) -> bool
     ensures { result ≡ sound_of store.now }
 {
     sound::is_sound(store)
