@@ -11,7 +11,8 @@ use kinds::{Channel, Route};
 use open_checks::Checked;
 use open_rules::{Opening, Outcome};
 
-// A refusal: 0 beside it.
+// A refusal: 0 beside it. Inlined, each refusal would have numbers of its own on the stack of an open.
+#[inline(never)]
 fn refused(number: u64, place: u64) -> Opening
     ensures { result ≡ refusal number place }
 {

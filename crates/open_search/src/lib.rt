@@ -36,7 +36,9 @@ fn put_rows(store: &[u64], l: usize, table: &mut [u64; 3 * Link::MOST_ROWS + 3])
     }
 }
 
-// Writes the response at each place of the route, up to the first that has none; answers that place, or the route's length.
+// Writes the response at each place of the route, up to the first that has none; answers that place, or the route's length. Its
+// table is on the stack only while it runs.
+#[inline(never)]
 pub fn responses(
     store: &[u64],
     asked: Channel,
