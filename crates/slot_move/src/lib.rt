@@ -58,7 +58,8 @@ pub fn report(store: &[u64], out: &mut [u64], picks: &[u64; Network::MOST_LINKS]
     let mut l: usize = 0;
     while l < links {
         let position = pick(picks, l);
-        if position > 0 {
+        let sends = position > 0;
+        if sends {
             put_send(store, out, n, slot, l, position - 1);
             n += 1;
         }
@@ -95,7 +96,8 @@ pub fn move_on(store: &mut [u64], picks: &[u64; Network::MOST_LINKS])
     let mut l: usize = 0;
     while l < links {
         let leaving = pick(picks, l);
-        if leaving > 0 {
+        let moves = leaving > 0;
+        if moves {
             advance(store, l, leaving - 1);
         }
         l += 1;

@@ -9,7 +9,7 @@ use Rattle.slot_move.proofs.Rows.{no_row, a_row_lem}
 use Rattle.slot_move.proofs.Moves.{Moving, moving_none, moving_pass, moving_ready, moving_more, moving_long, moving_length}
 use Rattle.slot_move.proofs.Moves.{moving_done}
 use Rattle.slot_move.proofs.move_on.Statement.{statement}
-use Rattle.slot_move.proofs.move_on.Lts.{then-leaving-gt0, else-leaving-gt0}
+use Rattle.slot_move.proofs.move_on.Lts.{then-moves, else-moves}
 use Rattle.slot_move.proofs.move_on.Tie as tie
 
 abbrev invariant_loop : tie.invariant-loop-l
@@ -61,12 +61,12 @@ loop_again : tie.Need-loop-l-preserved invariant_loop decreases_loop
 loop_again c =
     let sound = c.requires.0 in
     let inv = c.loop-l.invariant in
-    elim c.if-leaving-gt0.branch [
-      | then-leaving-gt0 w ↦
+    elim c.if-moves.branch [
+      | then-moves w ↦
           rw w.store-is
-          (moving_more _ sound _ _ inv (inside c.before.before) _ (row c.before (omega (arith, w.if-leaving-gt0.true))) _ w.advance.ensures)
-      | else-leaving-gt0 w ↦
-          rw w.store-is (moving_pass _ sound _ _ inv (inside c.before.before) (none c.before (omega (arith, w.if-leaving-gt0.false))))
+          (moving_more _ sound _ _ inv (inside c.before.before) _ (row c.before (omega (arith, w.if-moves.true))) _ w.advance.ensures)
+      | else-moves w ↦
+          rw w.store-is (moving_pass _ sound _ _ inv (inside c.before.before) (none c.before (omega (arith, w.if-moves.false))))
     ]
 
 add_put_clock : tie.Need-overflow_add-slot invariant_loop decreases_loop

@@ -9,7 +9,7 @@ use Rattle.slot_move.proofs.Rows.{no_row, a_row_lem}
 use Rattle.slot_move.proofs.Sends.{Sending, sending_none, sending_pass, sending_more, sending_few, sending_size}
 use Rattle.slot_move.proofs.Sends.{sending_done}
 use Rattle.slot_move.proofs.report.Statement.{statement}
-use Rattle.slot_move.proofs.report.Lts.{then-position-gt0, else-position-gt0}
+use Rattle.slot_move.proofs.report.Lts.{then-sends, else-sends}
 use Rattle.slot_move.proofs.report.Tie as tie
 
 abbrev invariant_loop : tie.invariant-loop-l
@@ -68,12 +68,12 @@ loop_again : tie.Need-loop-l-preserved invariant_loop decreases_loop
 loop_again c =
     let inv = c.loop-l.invariant in
     let more = sending_more _ _ _ _ _ inv c.requires.1.1 (inside c.before.before) in
-    elim c.if-position-gt0.branch [
-      | then-position-gt0 w ↦
-          rw (w.out-is, w.n-is) (more _ (row c.before (omega (arith, w.if-position-gt0.true))) _ refl _ w.put_send.ensures)
-      | else-position-gt0 w ↦
+    elim c.if-sends.branch [
+      | then-sends w ↦
+          rw (w.out-is, w.n-is) (more _ (row c.before (omega (arith, w.if-sends.true))) _ refl _ w.put_send.ensures)
+      | else-sends w ↦
           rw (w.out-is, w.n-is)
-          (sending_pass _ _ _ _ _ inv (inside c.before.before) (none c.before (omega (arith, w.if-position-gt0.false))))
+          (sending_pass _ _ _ _ _ inv (inside c.before.before) (none c.before (omega (arith, w.if-sends.false))))
     ]
 
 same_length : tie.Need-shape_of-out invariant_loop decreases_loop
