@@ -74,10 +74,12 @@ fn answer(store: &[u64], number: u64, packets: u64) -> Offered
     }
     let clock = head::clock(store);
     let channels = head::channels(store) as u64;
-    if clock >= Slot::END {
+    let ended = clock >= Slot::END;
+    if ended {
         return Offered::Refused(14, 0);
     }
-    if number >= channels {
+    let unknown = number >= channels;
+    if unknown {
         return Offered::Refused(11, 0);
     }
     let x = number as usize;

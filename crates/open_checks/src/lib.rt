@@ -47,7 +47,8 @@ pub fn early(store: &[u64], c: u64, p: u64, d: u64, b: u64, route: &[u64]) -> Ch
     if !sound::is_sound(store) {
         return Checked::Refused(17, 0);
     }
-    if head::clock(store) >= Slot::END {
+    let ended = head::clock(store) >= Slot::END;
+    if ended {
         return Checked::Refused(14, 0);
     }
     let CheckedChannel::Good(asked) = Channel::new(c, p, d, b) else {

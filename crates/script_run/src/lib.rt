@@ -234,7 +234,8 @@ fn last_line(
     ensures at_le_buffer_length_2 { result.at ≤ buffer_length }
     ensures next_value_2 { result.at ≤ last_for_slot → (result.next ≡ Line) × (result.length ≡ 0) }
 {
-    if run.length == 0 {
+    let nothing = run.length == 0;
+    if nothing {
         return run;
     }
     if !has_room(out, run.at) {

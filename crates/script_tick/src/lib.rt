@@ -85,7 +85,8 @@ pub fn tick(
     let mut end = at;
     let mut left = slots;
     while end <= LAST_FOR_SLOT {
-        if left == 0 {
+        let over = left == 0;
+        if over {
             let clock = [head::clock(store)];
             let last = script_listing::line(out, end, b"slot", &clock);
             return Ticked {

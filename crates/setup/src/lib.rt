@@ -24,10 +24,12 @@ pub fn set_up(store: &mut [u64], links: &[u64]) -> SetUp
         return SetUp::Refused(16, 0);
     }
     let bad = setup_list::bad_link(links, n);
-    if bad < n {
+    let fails = bad < n;
+    if fails {
         return SetUp::Refused(16, bad as u64);
     }
-    if store.len() < LENGTH {
+    let short = store.len() < LENGTH;
+    if short {
         return SetUp::Refused(17, 0);
     }
     setup_fresh::clear(store);

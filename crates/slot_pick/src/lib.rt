@@ -43,7 +43,8 @@ fn chosen(store: &[u64], l: usize, due: usize, soon: usize, least: u64) -> usize
         return 0;
     }
     let last = head::clock(store) + link::horizon(store, l);
-    if least <= last {
+    let near = least <= last;
+    if near {
         return soon;
     }
     0

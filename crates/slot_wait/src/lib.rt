@@ -54,7 +54,8 @@ pub fn idle(store: &[u64]) -> Waited
         return Waited::Refused(17, 0);
     }
     let clock = head::clock(store);
-    if clock >= Slot::END {
+    let ended = clock >= Slot::END;
+    if ended {
         return Waited::Refused(14, 0);
     }
     let links = head::links(store);

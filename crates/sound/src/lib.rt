@@ -120,7 +120,8 @@ fn all_listed(store: &[u64]) -> bool
 pub fn is_sound(store: &[u64]) -> bool
     ensures { result ≡ sound_of store.now }
 {
-    if store.len() < store::LENGTH {
+    let short = store.len() < store::LENGTH;
+    if short {
         return false;
     }
     if !counts_fit(store) {

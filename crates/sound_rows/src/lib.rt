@@ -62,7 +62,8 @@ fn link_rows_sound(store: &[u64], l: usize) -> bool
             return false;
         }
         let reserved = store_route::reserved(store, x, j);
-        if store_route::held(store, x, j) > reserved {
+        let over = store_route::held(store, x, j) > reserved;
+        if over {
             return false;
         }
         sum += reserved;

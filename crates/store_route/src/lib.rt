@@ -22,7 +22,8 @@ pub fn unknown_link(store: &[u64], numbers: &[u64], at: usize, n: usize) -> usiz
     let links = head::links(store);
     let mut j: usize = 0;
     while j < n {
-        if numbers[at + j] as usize >= links {
+        let unknown = numbers[at + j] as usize >= links;
+        if unknown {
             return j;
         }
         j += 1;

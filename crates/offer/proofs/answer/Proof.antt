@@ -28,16 +28,16 @@ checks s = offer_checks (store s) s.args.number s.args.packets
 past_17 : (c : tie.Else-not-is_sound) → AllHold (take 1 (checks c.before.before.before))
 past_17 c = one_more (checks c.before.before.before) 0 refl tt (held c.is_sound.ensures c.if-not-is_sound.false)
 
-past_14 : (c : tie.Else-clock-ge-END) → AllHold (take 2 (checks c.before.before.before.before.before.before))
+past_14 : (c : tie.Else-ended) → AllHold (take 2 (checks c.before.before.before.before.before.before))
 past_14 c =
-    one_more (checks c.before.before.before.before.before.before) 1 refl (past_17 c.before.before.before) (under c.clock-clock.ensures c.if-clock-ge-END.false)
+    one_more (checks c.before.before.before.before.before.before) 1 refl (past_17 c.before.before.before) (under c.clock-clock.ensures c.if-ended.false)
 
-past_11 : (c : tie.Else-number-channels) → AllHold (take 3 (checks c.before.before.before.before.before.before.before))
+past_11 : (c : tie.Else-unknown) → AllHold (take 3 (checks c.before.before.before.before.before.before.before))
 past_11 c =
-    one_more (checks c.before.before.before.before.before.before.before) 2 refl (past_14 c.before) (known c.channels-channels.ensures c.if-number-channels.false)
+    one_more (checks c.before.before.before.before.before.before.before) 2 refl (past_14 c.before) (known c.channels-channels.ensures c.if-unknown.false)
 
 -- What the functions that read the channel ask.
-inside : (c : tie.Else-number-channels) → (sound_of (store c.before.before.before.before.before.before.before) ≡ true) × (IsChannel (store c.before.before.before.before.before.before.before) c.args.number)
+inside : (c : tie.Else-unknown) → (sound_of (store c.before.before.before.before.before.before.before) ≡ true) × (IsChannel (store c.before.before.before.before.before.before.before) c.args.number)
 inside c = let h = past_11 c in (h.0, ltb-true _ _ h.1.1.0)
 
 past_12 : (c : tie.Else-not-is_message) → AllHold (take 4 (checks c.before.before.before.before.before.before.before.before.before))
@@ -71,15 +71,15 @@ clock_requires c κs = (sound_is (store c.before.before.before) (past_17 c).0).l
 channels_requires : tie.Need-channels-channels-requires
 channels_requires c κs = (sound_is (store c.before.before.before.before) (past_17 c.before).0).long
 
-returns_2 : tie.Need-returns-then-clock-ge-END
+returns_2 : tie.Need-returns-then-ended
 returns_2 c =
     answer_refused (store c.before.before.before.before.before.before) c.args.number c.args.packets 1 refl (past_17 c.before.before.before)
-    (at_least c.clock-clock.ensures c.if-clock-ge-END.true)
+    (at_least c.clock-clock.ensures c.if-ended.true)
 
-returns_3 : tie.Need-returns-then-number-channels
+returns_3 : tie.Need-returns-then-unknown
 returns_3 c =
     answer_refused (store c.before.before.before.before.before.before.before) c.args.number c.args.packets 2 refl (past_14 c.before)
-    (unknown c.channels-channels.ensures c.if-number-channels.true)
+    (unknown c.channels-channels.ensures c.if-unknown.true)
 
 is_message_requires : tie.Need-is_message-requires
 is_message_requires c κs = inside c

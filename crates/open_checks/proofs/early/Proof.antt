@@ -29,9 +29,9 @@ checks s =
 past_17 : (c : tie.Else-not-is_sound) → AllHold (take 1 (checks c.before.before.before.before))
 past_17 c = one_more (checks c.before.before.before.before) 0 refl tt (held c.is_sound.ensures c.if-not-is_sound.false)
 
-past_14 : (c : tie.Else-clock-ge-END) → AllHold (take 2 (checks c.before.before.before.before.before.before))
+past_14 : (c : tie.Else-ended) → AllHold (take 2 (checks c.before.before.before.before.before.before))
 past_14 c =
-    one_more (checks c.before.before.before.before.before.before) 1 refl (past_17 c.before.before) (under c.clock.ensures c.if-clock-ge-END.false)
+    one_more (checks c.before.before.before.before.before.before) 1 refl (past_17 c.before.before) (under c.clock-ended.ensures c.if-ended.false)
 
 past_1 : (c : tie.In-Good) → AllHold (take 3 (checks c.before.before.before.before.before.before.before.before))
 past_1 c =
@@ -87,12 +87,12 @@ returns c =
     fails_after Refused (checks c.before.before.before.before) 0 _ refl tt
     (refuted c.is_sound.ensures c.if-not-is_sound.true)
 
-clock_requires : tie.Need-clock-requires
+clock_requires : tie.Need-clock-ended-requires
 clock_requires c κs = long c.before.before.before.before (past_17 c)
 
-returns_2 : tie.Need-returns-then-clock-ge-END
+returns_2 : tie.Need-returns-then-ended
 returns_2 c =
-    fails_after Refused (checks c.before.before.before.before.before.before) 1 _ refl (past_17 c.before.before) (at_least c.clock.ensures c.if-clock-ge-END.true)
+    fails_after Refused (checks c.before.before.before.before.before.before) 1 _ refl (past_17 c.before.before) (at_least c.clock-ended.ensures c.if-ended.true)
 
 new_requires : tie.Need-new-requires
 new_requires c κs = search rules

@@ -9,9 +9,9 @@ use Rattle.script_run.proofs.Steps.{last_owed}
 use Rattle.script_run.proofs.last_line.Statement.{statement}
 use Rattle.script_run.proofs.last_line.Tie as tie
 
-returns : tie.Need-returns-then-run-eq0
+returns : tie.Need-returns-then-nothing
 returns c =
-    (refl, (c.requires.1.1, λ h. (c.requires.0 h, c.if-run-eq0.true)))
+    (refl, (c.requires.1.1, λ h. (c.requires.0 h, c.if-nothing.true)))
 
 has_room_requires : tie.Need-has_room-requires
 has_room_requires c κs = search rules
@@ -34,7 +34,7 @@ slots_requires c κs = search rules
 returns_3 : tie.Need-returns
 returns_3 c =
     let room = c.has_room.ensures.0 c.if-not-has_room.false in
-    let some : 0 < c.args.run.length = omega (arith, c.if-run-eq0.false) in
+    let some : 0 < c.args.run.length = omega (arith, c.if-nothing.false) in
     let fits : c.args.run.length ≤ length c.args.text.now =
     omega (arith, c.requires.1.0, c.kept_line-arg-3-1.given) in
     let e = c.kept_line-after.ensures in

@@ -16,17 +16,17 @@ loop_holds : tie.Need-loop-end-init invariant_loop decreases_loop
 loop_holds c = ticking_none _ _ _ _ c.requires
 
 clock_requires : tie.Need-clock-requires invariant_loop decreases_loop
-clock_requires c κs = omega (arith, c.clock-arg-then-left-eq0-1.given)
+clock_requires c κs = omega (arith, c.clock-arg-then-over-1.given)
 
-slice_aggregate_line : tie.Need-slice_bounds-line-end-then-left-eq0-2 invariant_loop decreases_loop
+slice_aggregate_line : tie.Need-slice_bounds-line-end-then-over-2 invariant_loop decreases_loop
 slice_aggregate_line c = search rules
 
 line_requires : tie.Need-line-last-requires invariant_loop decreases_loop
 line_requires c κs = omega (arith, c.line-arg-1.given.0.1)
 
-returns : tie.Need-returns-then-left-eq0 invariant_loop decreases_loop
+returns : tie.Need-returns-then-over invariant_loop decreases_loop
 returns c =
-    ticking_done _ _ _ _ _ _ _ _ c.loop-end.invariant (omega (arith, c.if-left-eq0.true)) c.line-arg-1.given.0.1
+    ticking_done _ _ _ _ _ _ _ _ c.loop-end.invariant (omega (arith, c.if-over.true)) c.line-arg-1.given.0.1
     c.loop-end-test.true _ c.clock.ensures _ _ c.line-last.ensures.1 c.line-last.ensures.0
 
 step_requires : tie.Need-step-stepped-requires invariant_loop decreases_loop

@@ -31,10 +31,10 @@ few c =
     let h = (within_true 1 most_links (links_in (numbers c.before.before)) (fit c)).1 in
     omega (arith, c.links_in-n.ensures)
 
-pass : (c : tie.Else-bad-n) → links_pass (numbers c.before.before.before.before) ≡ true
-pass c = none_bad _ _ _ c.links_in-n.ensures c.bad_link-bad.ensures c.if-bad-n.false
+pass : (c : tie.Else-fails) → links_pass (numbers c.before.before.before.before) ≡ true
+pass c = none_bad _ _ _ c.links_in-n.ensures c.bad_link-bad.ensures c.if-fails.false
 
-whole : (c : tie.Else-bad-n)
+whole : (c : tie.Else-fails)
     → 4 * c.links_in-n.result ≤ length (numbers c.before.before.before.before)
 whole c =
     omega (arith, pass_whole (numbers c.before.before.before.before) (pass c), c.links_in-n.ensures)
@@ -43,9 +43,9 @@ whole c =
 clear_requires : tie.Need-clear-requires
 clear_requires c κs = search rules
 
-accepted : (c : tie.Else-store-lt-LENGTH)
+accepted : (c : tie.Else-short)
     → Accepted c.args.store.now (numbers c.before.before.before.before.before)
-accepted c = record { count = fit c.before.before.before; pass = pass c.before; long = c.if-store-lt-LENGTH.false }
+accepted c = record { count = fit c.before.before.before; pass = pass c.before; long = c.if-short.false }
 
 links_in_requires : tie.Need-links_in-n-requires
 links_in_requires c κs = search rules
@@ -60,12 +60,12 @@ returns c =
 bad_link_requires : tie.Need-bad_link-bad-requires
 bad_link_requires c κs = few c
 
-returns_2 : tie.Need-returns-then-bad-n
+returns_2 : tie.Need-returns-then-fails
 returns_2 c =
-    ends_link _ _ _ c.links_in-n.ensures _ (fit c.before.before) c.bad_link-bad.ensures c.if-bad-n.true
+    ends_link _ _ _ c.links_in-n.ensures _ (fit c.before.before) c.bad_link-bad.ensures c.if-fails.true
 
-returns_3 : tie.Need-returns-then-store-lt-LENGTH
-returns_3 c = ends_short _ _ (fit c.before.before.before) (pass c.before) c.if-store-lt-LENGTH.true
+returns_3 : tie.Need-returns-then-short
+returns_3 c = ends_short _ _ (fit c.before.before.before) (pass c.before) c.if-short.true
 
 put_links_requires : tie.Need-put_links-requires
 put_links_requires c κs = search rules

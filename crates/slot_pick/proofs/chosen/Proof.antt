@@ -26,15 +26,15 @@ add_last c =
     let (e, (h, t)) = c.requires in
     last_fits _ e _ h c.clock.ensures c.horizon.ensures
 
-returns_3 : tie.Need-returns-then-least-last
+returns_3 : tie.Need-returns-then-near
 returns_3 c =
     let (e, (h, t)) = c.requires in
-    chosen_near _ _ c.clock.ensures c.horizon.ensures _ _ t c.if-due-gt0.false c.if-soon-eq0.false c.if-least-last.true
+    chosen_near _ _ c.clock.ensures c.horizon.ensures _ _ t c.if-due-gt0.false c.if-soon-eq0.false c.if-near.true
 
 returns_4 : tie.Need-returns
 returns_4 c =
     let (e, (h, t)) = c.requires in
-    chosen_far _ _ c.clock.ensures c.horizon.ensures _ _ t c.if-due-gt0.false c.if-least-last.false
+    chosen_far _ _ c.clock.ensures c.horizon.ensures _ _ t c.if-due-gt0.false c.if-near.false
 
 pub chosen_spec : {M : Type 1} → statement M
 chosen_spec = tie.close (tie.spec returns returns_2 clock_requires horizon_requires add_last returns_3 returns_4)

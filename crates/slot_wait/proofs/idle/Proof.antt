@@ -18,27 +18,27 @@ use Rattle.slot_wait.proofs.idle.Statement.{statement}
 use Rattle.slot_wait.proofs.idle.Tie as tie
 
 abbrev invariant_loop : tie.invariant-loop-l
-invariant_loop store clock links least₀ l₀ least l = Linking store l least
+invariant_loop store clock ended links least₀ l₀ least l = Linking store l least
 
 abbrev decreases_loop : tie.decreases-loop-l
-decreases_loop store clock links least₀ l₀ least l = links - l
+decreases_loop store clock ended links least₀ l₀ least l = links - l
 
 -- The store, and the checks that it has passed so far.
 abbrev store_17 : tie.Else-not-is_sound invariant_loop decreases_loop → Store
 store_17 c = c.args.store.now
 
-abbrev store_14 : tie.Else-clock-ge-END invariant_loop decreases_loop → Store
+abbrev store_14 : tie.Else-ended invariant_loop decreases_loop → Store
 store_14 c = store_17 c.before.before
 
 past_17 : (c : tie.Else-not-is_sound invariant_loop decreases_loop) → AllHold (take 1 (wait_checks (store_17 c)))
 past_17 c = one_more (wait_checks (store_17 c)) 0 refl tt (held c.is_sound.ensures c.if-not-is_sound.false)
 
-past_14 : (c : tie.Else-clock-ge-END invariant_loop decreases_loop) → AllHold (wait_checks (store_14 c))
+past_14 : (c : tie.Else-ended invariant_loop decreases_loop) → AllHold (wait_checks (store_14 c))
 past_14 c =
     one_more (wait_checks (store_14 c)) 1 refl (past_17 c.before.before)
-    (lt-ltb _ _ (rw c.clock-clock.ensures at c.if-clock-ge-END.false))
+    (lt-ltb _ _ (rw c.clock-clock.ensures at c.if-ended.false))
 
-sound : (c : tie.Else-clock-ge-END invariant_loop decreases_loop) → Sound (store_14 c)
+sound : (c : tie.Else-ended invariant_loop decreases_loop) → Sound (store_14 c)
 sound c = sound_is _ (past_14 c).0
 
 -- link l is there
@@ -54,9 +54,9 @@ returns c = idle_refused _ 0 refl tt (refuted c.is_sound.ensures c.if-not-is_sou
 clock_requires : tie.Need-clock-clock-requires invariant_loop decreases_loop
 clock_requires c κs = (sound_is _ (past_17 c).0).long
 
-returns_2 : tie.Need-returns-then-clock-ge-END invariant_loop decreases_loop
+returns_2 : tie.Need-returns-then-ended invariant_loop decreases_loop
 returns_2 c =
-    idle_refused _ 1 refl (past_17 c.before.before) (le-ltb _ _ (rw c.clock-clock.ensures at c.if-clock-ge-END.true))
+    idle_refused _ 1 refl (past_17 c.before.before) (le-ltb _ _ (rw c.clock-clock.ensures at c.if-ended.true))
 
 links_requires : tie.Need-links-links-requires invariant_loop decreases_loop
 links_requires c κs = (sound c).long

@@ -9,7 +9,7 @@ use Rattle.sound.proofs.is_sound.Tie as tie
 
 -- what has passed
 counted : (c : tie.Else-not-counts_fit) → Counted c.args.store.now
-counted c = (c.if-store-lt-LENGTH.false, held c.counts_fit.ensures c.if-not-counts_fit.false)
+counted c = (c.if-short.false, held c.counts_fit.ensures c.if-not-counts_fit.false)
 
 linked : (c : tie.Else-not-links_fit) → Linked c.args.store.now
 linked c = (counted c.before.before, held c.links_fit.ensures c.if-not-links_fit.false)
@@ -20,14 +20,14 @@ fitting c = fit _ (linked c.before.before) (held c.channels_sound.ensures c.if-n
 filled : (c : tie.Else-not-rows_sound) → Filled c.args.store.now
 filled c = (fitting c.before.before, held c.rows_sound.ensures c.if-not-rows_sound.false)
 
-returns : tie.Need-returns-then-store-lt-LENGTH
-returns c = too_short _ c.if-store-lt-LENGTH.true
+returns : tie.Need-returns-then-short
+returns c = too_short _ c.if-short.true
 
 counts_fit_requires : tie.Need-counts_fit-requires
 counts_fit_requires c κs = search rules
 
 returns_2 : tie.Need-returns-then-not-counts_fit
-returns_2 c = bad_counts _ c.if-store-lt-LENGTH.false (refuted c.counts_fit.ensures c.if-not-counts_fit.true)
+returns_2 c = bad_counts _ c.if-short.false (refuted c.counts_fit.ensures c.if-not-counts_fit.true)
 
 links_fit_requires : tie.Need-links_fit-requires
 links_fit_requires c κs = counted c

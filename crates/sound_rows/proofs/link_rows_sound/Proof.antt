@@ -86,11 +86,11 @@ held_requires c κs =
     let h = row_at r (stood c.before.before.before.before) in
     (r.fit.long, (h.0, (h.1, row_flows r (stood c.before.before.before.before))))
 
-returns_3 : tie.Need-returns-then-held-reserved invariant_loop decreases_loop
+returns_3 : tie.Need-returns-then-over invariant_loop decreases_loop
 returns_3 c =
     let i = c.loop-k.invariant in
     row_full (row c.before.before.before.before.before.before.before.before) (stood c.before.before.before.before.before.before) i.delay i.channel c.delay-delay.ensures
-    (held c.row_follows.ensures c.if-not-row_follows.false) c.held.ensures c.reserved-reserved.ensures c.if-held-reserved.true
+    (held c.row_follows.ensures c.if-not-row_follows.false) c.held.ensures c.reserved-reserved.ensures c.if-over.true
 
 add_sum : tie.Need-overflow_add-sum invariant_loop decreases_loop
 add_sum c =
@@ -107,7 +107,7 @@ loop_again : tie.Need-loop-k-preserved invariant_loop decreases_loop
 loop_again c =
     let i = c.loop-k.invariant in
     let good = row_good (row c.before.before.before.before.before.before.before.before) (stood c.before.before.before.before.before.before) i.delay i.channel c.delay-delay.ensures
-    (held c.row_follows.ensures c.if-not-row_follows.false) c.held.ensures c.reserved-reserved.ensures c.if-held-reserved.false in
+    (held c.row_follows.ensures c.if-not-row_follows.false) c.held.ensures c.reserved-reserved.ensures c.if-over.false in
     walk_more _ _ _ _ _ _ i (row c.before.before.before.before.before.before.before.before) c.delay-delay.ensures c.reserved-reserved.ensures good
     (row_most (row c.before.before.before.before.before.before.before.before) (stood c.before.before.before.before.before.before) c.reserved-reserved.ensures)
 

@@ -20,7 +20,7 @@ links_requires c κs = search rules
 loop_holds : tie.Need-loop-j-init invariant_loop decreases_loop
 loop_holds c = passing_none _ _
 
-add_if1 : tie.Need-overflow_add-at invariant_loop decreases_loop
+add_if1 : tie.Need-overflow_add-unknown invariant_loop decreases_loop
 add_if1 c = omega arith
 
 mul_if1 : tie.Need-offset_bounds-numbers-at invariant_loop decreases_loop
@@ -29,10 +29,10 @@ mul_if1 c = search rules
 shared_slice_read_if1 : tie.Need-bounds-numbers-at invariant_loop decreases_loop
 shared_slice_read_if1 c = omega arith
 
-returns : tie.Need-returns-then-numbers-at invariant_loop decreases_loop
+returns : tie.Need-returns-then-unknown invariant_loop decreases_loop
 returns c =
     passing_first _ _ _ c.loop-j.invariant c.loop-j-test.true (unknown
-    c.args.store.now _ _ c.links-links.ensures c.if-numbers-at.true)
+    c.args.store.now _ _ c.links-links.ensures c.if-unknown.true)
 
 add_j : tie.Need-overflow_add-j invariant_loop decreases_loop
 add_j c = omega arith
@@ -43,7 +43,7 @@ loop_less c = omega arith
 loop_again : tie.Need-loop-j-preserved invariant_loop decreases_loop
 loop_again c =
     passing_more _ _ _ c.loop-j.invariant c.loop-j-test.true
-    (known c.args.store.now _ _ c.links-links.ensures c.if-numbers-at.false)
+    (known c.args.store.now _ _ c.links-links.ensures c.if-unknown.false)
 
 returns_2 : tie.Need-returns invariant_loop decreases_loop
 returns_2 c = passing_end _ _ _ c.loop-j.invariant c.loop-j-test.false
