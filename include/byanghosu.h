@@ -1,5 +1,4 @@
-/* Byanghosu: what the router's control board calls. Numbers and lent buffers only. For C99 and C++11, on x86-64 with SSE4.2 and
- * POPCNT (x86-64-v2).
+/* Byanghosu: what the router's control board calls. Numbers and lent buffers only. For C99 and C++11, on x86-64.
  *
  * A call that can be refused returns the refusal number of document 01, or 0 where it ran; a slot gives back its sends, and
  * writes that number to a lent one. A refused call writes no output but this, `place`, the place that the refusal names (0
@@ -18,7 +17,7 @@
  *   no memory of its own, so calls that are lent other stores and buffers may run at the same time.
  * - The stack. A call needs at most BYANGHOSU_STACK bytes, among them up to 128 below the stack pointer, as x86-64 allows. It
  *   calls memcpy and memset, which are the C library's, and nothing else; it allocates nothing, waits for nothing and uses no
- *   floating point, but it does use the SSE registers. `tools/exec target/tests/stack` prints what each call is seen to need. */
+ *   floating point, but it does use the SSE2 registers. `tools/exec target/tests/stack` prints what each call is seen to need. */
 #ifndef BYANGHOSU_H
 #define BYANGHOSU_H
 

@@ -14,7 +14,7 @@ fn is_within(least: u64, most: u64, n: u64) -> bool
 }
 
 // A one-way link between two nodes. It sends early packets up to `horizon` slots ahead and holds up to `buffer` packets.
-#[derive(Drop)]
+#[derive(Clone, Copy)]
 pub struct Link {
     pub from: u64,
     pub to: u64,
@@ -22,7 +22,7 @@ pub struct Link {
     pub buffer: u64,
 }
 
-#[derive(Drop)]
+#[derive(Clone, Copy)]
 pub enum CheckedLink {
     Good(Link),
     Refused(u64),
@@ -81,7 +81,7 @@ pub struct Channel {
     pub b: u64,
 }
 
-#[derive(Drop)]
+#[derive(Clone, Copy)]
 pub enum CheckedChannel {
     Good(Channel),
     Refused(u64),
@@ -156,7 +156,7 @@ pub struct Route {
     pub hops: usize,
 }
 
-#[derive(Drop)]
+#[derive(Clone, Copy)]
 pub enum CheckedRoute {
     Good(Route),
     Refused(u64),
@@ -179,7 +179,7 @@ impl Route {
 }
 
 // A network: how many links and channels it has.
-#[derive(Drop)]
+#[derive(Clone, Copy)]
 pub struct Network {
     pub links: usize,
     pub channels: usize,
@@ -206,7 +206,7 @@ impl Network {
 }
 
 // A slot of the clock, which stops at `END`. No other slot, and no message's number, is above `MOST`.
-#[derive(Drop)]
+#[derive(Clone, Copy)]
 pub struct Slot {
     pub number: u64,
 }

@@ -3,7 +3,7 @@
 #![tactic(auto)]
 
 // The message's number, from 0, and its logical time; or the refusal's number and place.
-#[derive(Drop)]
+#[derive(Clone, Copy)]
 pub enum Offered {
     Refused(u64, u64),
     Accepted(u64, u64),

@@ -14,7 +14,7 @@ use store::{head, link};
 
 // What the checks leave of a request: the number that its channel will have, what it asks for, and how many links its route has;
 // or the refusal's number and place.
-#[derive(Drop)]
+#[derive(Clone, Copy)]
 pub enum Checked {
     Refused(u64, u64),
     Passed(usize, Channel, Route),

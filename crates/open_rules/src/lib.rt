@@ -12,7 +12,7 @@ pub enum Outcome {
 }
 
 // The outcome, and beside it the numbers of each link, along the route: all 0 on a refusal and past the end of the route.
-#[derive(Drop)]
+#[derive(Clone, Copy)]
 pub struct Opening {
     pub outcome: Outcome,
     pub responses: [u64; Route::MOST_HOPS],

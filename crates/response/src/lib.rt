@@ -21,14 +21,14 @@ pub struct Row {
 
 // What the calculation finds: the response and the number of trials, or no response within the limit and the number
 // of trials.
-#[derive(Drop)]
+#[derive(Clone, Copy)]
 pub enum Answer {
     Found(u64, u64),
     Nothing(u64),
 }
 
 // What the call by itself gives back: the answer, or the refusal's number and place.
-#[derive(Drop)]
+#[derive(Clone, Copy)]
 pub enum Reply {
     Answered(Answer),
     Refused(u64, u64),

@@ -31,7 +31,7 @@ pub enum Next {
 }
 
 // After a line: the phase, what comes next, and where the listing goes on in the buffer.
-#[derive(Drop)]
+#[derive(Clone, Copy)]
 pub struct Played {
     pub phase: Phase,
     pub next: Next,

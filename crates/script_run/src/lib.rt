@@ -31,7 +31,7 @@ pub struct Run {
 
 // What a run wants when the buffer has been written out: room for more of the same chunk; the next chunk, which is empty at the
 // end of the script; or nothing, as it is over.
-#[derive(Drop)]
+#[derive(Clone, Copy)]
 pub enum Wants {
     Room,
     Chunk,
@@ -39,7 +39,7 @@ pub enum Wants {
 }
 
 // After a step: where the run stands, and what it wants.
-#[derive(Drop)]
+#[derive(Clone, Copy)]
 pub struct After {
     pub run: Run,
     pub wants: Wants,

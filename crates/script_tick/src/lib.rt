@@ -20,7 +20,7 @@ struct Stepped {
 }
 
 // The same, and whether the tick is over, with its `slot` line.
-#[derive(Drop)]
+#[derive(Clone, Copy)]
 pub struct Ticked {
     pub at: usize,
     pub left: u64,

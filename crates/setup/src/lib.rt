@@ -8,7 +8,7 @@ use kinds::Network;
 use store::LENGTH;
 
 // What set-up answers: the network stands, or the refusal's number and place.
-#[derive(Drop)]
+#[derive(Clone, Copy)]
 pub enum SetUp {
     Ready,
     Refused(u64, u64),

@@ -3,14 +3,14 @@
 #![tactic(auto)]
 
 // A slot ran, or was refused with a number and a place.
-#[derive(Drop)]
+#[derive(Clone, Copy)]
 pub enum Turn {
     Refused(u64, u64),
     Ran,
 }
 
 // So many slots; or the refusal's number and place.
-#[derive(Drop)]
+#[derive(Clone, Copy)]
 pub enum Waited {
     Refused(u64, u64),
     Slots(u64),

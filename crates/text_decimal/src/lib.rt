@@ -7,7 +7,7 @@ ghost use Rattle.text_decimal.specs.Put.{put_at};
 ghost use Rattle.text_decimal.specs.Word.{number_in};
 
 // Its value, and where the text goes on after it; or no number stands there.
-#[derive(Drop)]
+#[derive(Clone, Copy)]
 pub enum Number {
     Nothing,
     Value(u64, usize),

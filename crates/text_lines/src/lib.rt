@@ -7,7 +7,7 @@ ghost use Rattle.text_lines.specs.Lines.{ahead, most_kept};
 ghost use Rattle.text_lines.specs.Gathered.{gathered, fitting};
 
 // Where the chunk goes on, how many bytes of the line are kept, and whether its line feed was there.
-#[derive(Drop)]
+#[derive(Clone, Copy)]
 pub struct Gathered {
     pub at: usize,
     pub length: usize,

@@ -1,4 +1,4 @@
--- Every answer that `response` gives is right: `response-right`.
+-- Every answer that `response` gives is right: `response_right`.
 use Prim.Native.Nat.{ℕ, zero, suc, ◌+◌, ◌-◌, ◌≤◌, ◌<◌}
 use mathlib.Core.Path.{◌≡◌, refl, ap, sym, ◌∙◌, subst}
 use mathlib.Core.Logic.{◌≢◌}
