@@ -1,2 +1,3 @@
 pub mod Folds
 pub mod Adding
+pub mod Chains

@@ -1,5 +1,7 @@
 -- Going through the numbers below n: whether a test holds of each, of some, where it first fails, and a sum.
 use Rattle.std.specs.Prelude.{ℕ, zero, suc, ◌+◌, Bool, true, false, ◌&&◌, ◌||◌}
+use Rattle.std.specs.declared.option.Option.{Option}
+use Rattle.std.specs.declared.option.Option.TheVariants.{None, Some}
 
 -- f holds of each
 unfoldable pub every : (ℕ → Bool) → ℕ → Bool
@@ -15,6 +17,10 @@ some f (suc n) = some f n || f n
 unfoldable pub first_not : (ℕ → Bool) → ℕ → ℕ
 first_not f zero = 0
 first_not f (suc n) = elim (every f n) [ true ↦ elim (f n) [ true ↦ suc n | false ↦ n ] | false ↦ first_not f n ]
+
+-- the same, where there is one
+unfoldable pub failing : (ℕ → Bool) → ℕ → Option ℕ
+failing f n = elim (every f n) [ true ↦ None | false ↦ Some (first_not f n) ]
 
 -- the sum of f
 unfoldable pub sum_to : (ℕ → ℕ) → ℕ → ℕ

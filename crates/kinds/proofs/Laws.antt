@@ -11,9 +11,10 @@ use Rattle.kinds.specs.Checks.{link_passes, channel_passes, new_link, new_channe
 use Rattle.kinds.specs.declared.Link.{Link}
 use Rattle.kinds.specs.declared.Channel.{Channel}
 use Rattle.kinds.specs.declared.Route.{Route}
-use Rattle.kinds.specs.declared.CheckedLink.TheVariants as link
-use Rattle.kinds.specs.declared.CheckedChannel.TheVariants as channel
-use Rattle.kinds.specs.declared.CheckedRoute.TheVariants as route
+use Rattle.kinds.specs.declared.Refusal.{Refusal}
+use Rattle.kinds.specs.declared.Refusal.TheVariants.{Range, RouteLength, BadLinks}
+use Rattle.std.specs.declared.result.Result.TheVariants.{Ok, Err}
+use Rattle.std.specs.Prelude.{is_ok}
 
 pub within_true : (least most n : ℕ) → within least most n ≡ true → (least ≤ n) × (n ≤ most)
 within_true least most n e =
@@ -90,20 +91,28 @@ module _ (from to horizon buffer : ℕ) where
       (true_within 1 most_buffer buffer g.buffer_least g.buffer_most)
 
   pub link_good : link_passes from to horizon buffer ≡ true
-      → link.Good (record { from = from; to = to; horizon = horizon; buffer = buffer }) ≡ new_link from to horizon buffer
+      → Ok (record { from = from; to = to; horizon = horizon; buffer = buffer }) ≡ new_link from to horizon buffer
   unfolding new_link
   link_good e = rw (e, new_link)
 
-  pub link_refused : link_passes from to horizon buffer ≡ false → link.Refused 16 ≡ new_link from to horizon buffer
+  pub link_refused : link_passes from to horizon buffer ≡ false → Err (BadLinks 0) ≡ new_link from to horizon buffer
   unfolding new_link
   link_refused e = rw (e, new_link)
 
   -- and what an answer says of the check
-  pub good_link : {x : Link} → new_link from to horizon buffer ≡ link.Good x → link_passes from to horizon buffer ≡ true
+  pub good_link : {x : Link} → new_link from to horizon buffer ≡ Ok x → link_passes from to horizon buffer ≡ true
   good_link e = always _ (λ f. let z : ◌≡◌ {A = ℕ} 0 1 = cc (link_refused f) in omega arith)
 
-  pub refused_link : {n : ℕ} → new_link from to horizon buffer ≡ link.Refused n → link_passes from to horizon buffer ≡ false
+  pub refused_link : {n : Refusal} → new_link from to horizon buffer ≡ Err n → link_passes from to horizon buffer ≡ false
   refused_link e = never _ (λ f. let z : ◌≡◌ {A = ℕ} 0 1 = cc (link_good f) in omega arith)
+
+  pub link_is_ok : is_ok (new_link from to horizon buffer) ≡ link_passes from to horizon buffer
+  unfolding new_link
+  link_is_ok = go (link_passes from to horizon buffer) refl
+    where
+      go : (t : Bool) → link_passes from to horizon buffer ≡ t → is_ok (new_link from to horizon buffer) ≡ link_passes from to horizon buffer
+      go true e = rw (e, new_link)
+      go false e = rw (e, new_link)
 
 -- "its channels pass 1", as bounds
 pub record GoodChannel (c p d b : ℕ) : Type 0 where
@@ -144,39 +153,55 @@ module _ (c p d b : ℕ) where
       rw (in_c, in_p, true_within 1 most_d d g.d_least g.d_most)
       (true_within 1 most_b b g.b_least g.b_most)
 
-  pub channel_good : channel_passes c p d b ≡ true → channel.Good (record { c = c; p = p; d = d; b = b }) ≡ new_channel c p d b
+  pub channel_good : channel_passes c p d b ≡ true → Ok (record { c = c; p = p; d = d; b = b }) ≡ new_channel c p d b
   unfolding new_channel
   channel_good e = rw (e, new_channel)
 
-  pub channel_refused : channel_passes c p d b ≡ false → channel.Refused 1 ≡ new_channel c p d b
+  pub channel_refused : channel_passes c p d b ≡ false → Err Range ≡ new_channel c p d b
   unfolding new_channel
   channel_refused e = rw (e, new_channel)
 
   -- and what an answer says of the check
-  pub good_channel : {x : Channel} → new_channel c p d b ≡ channel.Good x → channel_passes c p d b ≡ true
+  pub good_channel : {x : Channel} → new_channel c p d b ≡ Ok x → channel_passes c p d b ≡ true
   good_channel e = always _ (λ f. let z : ◌≡◌ {A = ℕ} 0 1 = cc (channel_refused f) in omega arith)
 
-  pub channel_asked : {x : Channel} → new_channel c p d b ≡ channel.Good x → x ≡ record { c = c; p = p; d = d; b = b }
+  pub channel_asked : {x : Channel} → new_channel c p d b ≡ Ok x → x ≡ record { c = c; p = p; d = d; b = b }
   channel_asked e = let z = channel_good (good_channel e) in cc
 
-  pub refused_channel : {n : ℕ} → new_channel c p d b ≡ channel.Refused n → channel_passes c p d b ≡ false
+  pub refused_channel : {n : Refusal} → new_channel c p d b ≡ Err n → channel_passes c p d b ≡ false
   refused_channel e = never _ (λ f. let z : ◌≡◌ {A = ℕ} 0 1 = cc (channel_good f) in omega arith)
 
+  pub channel_is_ok : is_ok (new_channel c p d b) ≡ channel_passes c p d b
+  unfolding new_channel
+  channel_is_ok = go (channel_passes c p d b) refl
+    where
+      go : (t : Bool) → channel_passes c p d b ≡ t → is_ok (new_channel c p d b) ≡ channel_passes c p d b
+      go true e = rw (e, new_channel)
+      go false e = rw (e, new_channel)
+
 module _ (hops : ℕ) where
-  pub route_good : in_range_hops hops ≡ true → route.Good (record { hops = hops }) ≡ new_route hops
+  pub route_good : in_range_hops hops ≡ true → Ok (record { hops = hops }) ≡ new_route hops
   unfolding new_route
   route_good e = rw (e, new_route)
 
-  pub route_refused : in_range_hops hops ≡ false → route.Refused 2 ≡ new_route hops
+  pub route_refused : in_range_hops hops ≡ false → Err RouteLength ≡ new_route hops
   unfolding new_route
   route_refused e = rw (e, new_route)
 
   -- and what an answer says of the check
-  pub good_route : {x : Route} → new_route hops ≡ route.Good x → in_range_hops hops ≡ true
+  pub good_route : {x : Route} → new_route hops ≡ Ok x → in_range_hops hops ≡ true
   good_route e = always _ (λ f. let z : ◌≡◌ {A = ℕ} 0 1 = cc (route_refused f) in omega arith)
 
-  pub route_asked : {x : Route} → new_route hops ≡ route.Good x → x ≡ record { hops = hops }
+  pub route_asked : {x : Route} → new_route hops ≡ Ok x → x ≡ record { hops = hops }
   route_asked e = let z = route_good (good_route e) in cc
 
-  pub refused_route : {n : ℕ} → new_route hops ≡ route.Refused n → in_range_hops hops ≡ false
+  pub refused_route : {n : Refusal} → new_route hops ≡ Err n → in_range_hops hops ≡ false
   refused_route e = never _ (λ f. let z : ◌≡◌ {A = ℕ} 0 1 = cc (route_good f) in omega arith)
+
+  pub route_is_ok : is_ok (new_route hops) ≡ in_range_hops hops
+  unfolding new_route
+  route_is_ok = go (in_range_hops hops) refl
+    where
+      go : (t : Bool) → in_range_hops hops ≡ t → is_ok (new_route hops) ≡ in_range_hops hops
+      go true e = rw (e, new_route)
+      go false e = rw (e, new_route)

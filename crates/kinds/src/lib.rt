@@ -1,11 +1,79 @@
-// The kinds of numbers that document 01 bounds. Each range stands once, here, beside its kind. A constructor (`new`) answers the
-// value, or the refusal number of the check that failed.
+// The kinds of numbers that document 01 bounds, and why a call is refused. Each range stands once, here, beside its kind. A
+// constructor (`new`) answers the value, or the refusal of the check that failed.
 #![tactic(auto)]
 
 ghost use Rattle.std.specs.Prelude.{◌≡◌};
 ghost use Rattle.kinds.specs.Ranges.{within, in_range_links, in_range_rows, in_range_channels, in_range_c, in_range_p, in_range_d};
 ghost use Rattle.kinds.specs.Ranges.{in_range_b, is_slot, is_number};
 ghost use Rattle.kinds.specs.Checks.{link_passes, channel_passes, new_link, new_channel, new_route};
+ghost use Rattle.kinds.specs.Refusals.{number_of, place_of};
+
+// Why a call is refused, in the order of document 01's refusal numbers; with the place, of a route or of the links of a set-up,
+// where one is named.
+#[derive(Clone, Copy, Debug, PartialEq, Eq)]
+pub enum Refusal {
+    Range,
+    RouteLength,
+    NoLink(u64),
+    LinkTwice(u64),
+    LinksApart(u64),
+    ChannelsFull,
+    RowsFull(u64),
+    NoResponse(u64),
+    OverD,
+    BufferFull(u64),
+    NoChannel,
+    MessageLength,
+    Burst,
+    EndSlot,
+    OutShort,
+    BadLinks(u64),
+    NotSound,
+    BadTable,
+}
+
+impl Refusal {
+    pub fn number(self) -> u64
+        ensures { result ≡ number_of self }
+    {
+        match self {
+            Refusal::Range => 1,
+            Refusal::RouteLength => 2,
+            Refusal::NoLink(_) => 3,
+            Refusal::LinkTwice(_) => 4,
+            Refusal::LinksApart(_) => 5,
+            Refusal::ChannelsFull => 6,
+            Refusal::RowsFull(_) => 7,
+            Refusal::NoResponse(_) => 8,
+            Refusal::OverD => 9,
+            Refusal::BufferFull(_) => 10,
+            Refusal::NoChannel => 11,
+            Refusal::MessageLength => 12,
+            Refusal::Burst => 13,
+            Refusal::EndSlot => 14,
+            Refusal::OutShort => 15,
+            Refusal::BadLinks(_) => 16,
+            Refusal::NotSound => 17,
+            Refusal::BadTable => 18,
+        }
+    }
+
+    // 0 where none is named.
+    pub fn place(self) -> u64
+        ensures { result ≡ place_of self }
+    {
+        match self {
+            Refusal::NoLink(place)
+            | Refusal::LinkTwice(place)
+            | Refusal::LinksApart(place)
+            | Refusal::RowsFull(place)
+            | Refusal::NoResponse(place)
+            | Refusal::BufferFull(place)
+            | Refusal::BadLinks(place) => place,
+            _ => 0,
+        }
+    }
+}
 
 fn is_within(least: u64, most: u64, n: u64) -> bool
     ensures { result ≡ within least most n }
@@ -20,12 +88,6 @@ pub struct Link {
     pub to: u64,
     pub horizon: u64,
     pub buffer: u64,
-}
-
-#[derive(Clone, Copy)]
-pub enum CheckedLink {
-    Good(Link),
-    Refused(u64),
 }
 
 impl Link {
@@ -49,18 +111,19 @@ impl Link {
                         && (Self::LEAST_BUFFER <= buffer && buffer <= Self::MOST_BUFFER))))
     }
 
-    pub fn new(from: u64, to: u64, horizon: u64, buffer: u64) -> CheckedLink
+    #[tactic(auto, unfolding(crate::specs::Checks::new_link))]
+    pub fn new(from: u64, to: u64, horizon: u64, buffer: u64) -> Result<Link, Refusal>
         ensures { result ≡ new_link from to horizon buffer }
     {
         if Self::passes(from, to, horizon, buffer) {
-            CheckedLink::Good(Link {
-                from: from,
-                to: to,
-                horizon: horizon,
-                buffer: buffer,
+            Ok(Link {
+                from,
+                to,
+                horizon,
+                buffer,
             })
         } else {
-            CheckedLink::Refused(16)
+            Err(Refusal::BadLinks(0))
         }
     }
 
@@ -79,12 +142,6 @@ pub struct Channel {
     pub p: u64,
     pub d: u64,
     pub b: u64,
-}
-
-#[derive(Clone, Copy)]
-pub enum CheckedChannel {
-    Good(Channel),
-    Refused(u64),
 }
 
 impl Channel {
@@ -134,18 +191,14 @@ impl Channel {
         Self::c_in_range(c) && (Self::p_in_range(p) && (Self::d_in_range(d) && Self::b_in_range(b)))
     }
 
-    pub fn new(c: u64, p: u64, d: u64, b: u64) -> CheckedChannel
+    #[tactic(auto, unfolding(crate::specs::Checks::new_channel))]
+    pub fn new(c: u64, p: u64, d: u64, b: u64) -> Result<Channel, Refusal>
         ensures { result ≡ new_channel c p d b }
     {
         if Self::passes(c, p, d, b) {
-            CheckedChannel::Good(Channel {
-                c: c,
-                p: p,
-                d: d,
-                b: b,
-            })
+            Ok(Channel { c, p, d, b })
         } else {
-            CheckedChannel::Refused(1)
+            Err(Refusal::Range)
         }
     }
 }
@@ -156,24 +209,19 @@ pub struct Route {
     pub hops: usize,
 }
 
-#[derive(Clone, Copy)]
-pub enum CheckedRoute {
-    Good(Route),
-    Refused(u64),
-}
-
 impl Route {
     pub const LEAST_HOPS: usize = 1;
 
     pub const MOST_HOPS: usize = 8;
 
-    pub fn new(hops: usize) -> CheckedRoute
+    #[tactic(auto, unfolding(crate::specs::Checks::new_route))]
+    pub fn new(hops: usize) -> Result<Route, Refusal>
         ensures { result ≡ new_route hops }
     {
         if is_within(Self::LEAST_HOPS as u64, Self::MOST_HOPS as u64, hops as u64) {
-            CheckedRoute::Good(Route { hops: hops })
+            Ok(Route { hops })
         } else {
-            CheckedRoute::Refused(2)
+            Err(Refusal::RouteLength)
         }
     }
 }
