@@ -1,20 +1,15 @@
 -- The loop over a channel's places, and the tests as the code makes them.
 use Prim.Native.Nat.{ℕ, ◌+◌, ◌-◌, ◌≤◌, ◌<◌}
 use mathlib.Core.Path.{◌≡◌, sym, ap, ◌∙◌}
-use mathlib.Core.Bool.{Bool, true, false, and-eq-true_iff}
+use mathlib.Core.Bool.{true, false, and-eq-true_iff}
 use native.Mathlib.Nat.{le_trans}
 use native.Mathlib.Omega.{arith}
 use borrow.Author.Tests.{le-leb, lt-leb}
 use Rattle.kinds.specs.Ranges.{within, most_hops, most_c, most_p, in_range_hops}
-use Rattle.kinds.specs.Checks.{channel_passes, new_channel, new_route}
-use Rattle.kinds.specs.declared.Channel.{Channel}
-use Rattle.kinds.specs.declared.Route.{Route}
-use Rattle.kinds.specs.declared.CheckedChannel.TheVariants as channel
-use Rattle.kinds.specs.declared.CheckedRoute.TheVariants as route
-use Rattle.kinds.proofs.Laws.{within_true, channel_bounds, good_channel, refused_channel, good_route, refused_route}
-use Rattle.store.specs.Layout.{Store, route_of, c_of, p_of, d_of, b_of, hops_of, delay_of, sent_of}
+use Rattle.kinds.specs.Checks.{channel_passes}
+use Rattle.kinds.proofs.Laws.{within_true, channel_bounds}
+use Rattle.store.specs.Layout.{Store, c_of, p_of, d_of, b_of, hops_of, delay_of, sent_of}
 use Rattle.folds.specs.Folds.{every}
-use Rattle.store.specs.Route.{route_passes}
 use Rattle.store.specs.Amounts.{entered_of}
 use Rattle.store.specs.Ranged.{SmallDelays}
 use Rattle.store.specs.Sound.{channel_fits, place_fits}
@@ -69,25 +64,6 @@ module _ (w : Store) (x hops p : ℕ) where
 
   pub placing_done : (entered j : ℕ) → Placing w x hops p entered j → hops ≤ j → true ≡ every (place_fits w x) (hops_of w x)
   placing_done entered j t h = rw (sym t.hops_are) (sym (passing_done _ _ j t.passing h))
-
--- Checks 1 and 2, by what the constructors answer to the numbers as they were read.
-module _ (w : Store) (x k p d b : ℕ) (ek : k ≡ c_of w x) (ep : p ≡ p_of w x) (ed : d ≡ d_of w x) (eb : b ≡ b_of w x) where
-  pub numbers_pass : {y : Channel} → new_channel k p d b ≡ channel.Good y
-      → channel_passes (c_of w x) (p_of w x) (d_of w x) (b_of w x) ≡ true
-  numbers_pass e = good_channel (c_of w x) (p_of w x) (d_of w x) (b_of w x) (rw (ek, ep, ed, eb) at e)
-
-  pub numbers_fail : {n : ℕ} → new_channel k p d b ≡ channel.Refused n → false ≡ channel_fits w x
-  numbers_fail e = rw (refused_channel (c_of w x) (p_of w x) (d_of w x) (b_of w x) (rw (ek, ep, ed, eb) at e))
-
-module _ (w : Store) (x h : ℕ) (eh : h ≡ hops_of w x) (one : channel_passes (c_of w x) (p_of w x) (d_of w x) (b_of w x) ≡ true) where
-  pub hops_fail : {n : ℕ} → new_route h ≡ route.Refused n → false ≡ channel_fits w x
-  hops_fail e = rw (one, refused_route (hops_of w x) (rw eh at e))
-
-  pub hops_pass : {y : Route} → new_route h ≡ route.Good y → (r : Bool) → r ≡ route_passes w (route_of w x) h → r ≡ channel_fits w x
-  hops_pass e r f = rw (one, good_route (hops_of w x) (rw eh at e)) (rw eh at f)
-
-pub hops_most : (h : ℕ) {y : Route} → new_route h ≡ route.Good y → h ≤ most_hops
-hops_most h e = (within_true 1 most_hops h (good_route h e)).1
 
 -- What checks 1 and 2 give to the parts that come after them.
 pub record Sized (w : Store) (x : ℕ) : Type 0 where

@@ -8,7 +8,7 @@ ghost use Rattle.folds.specs.Folds.{every};
 ghost use Rattle.store.specs.Route.{route_passes};
 ghost use Rattle.store.specs.Sound.{channel_fits, place_fits, channel_sound};
 
-use kinds::{Channel, CheckedChannel, CheckedRoute, Route};
+use kinds::{Channel, Route};
 use store::channel;
 
 // Checks 3, 4 and 5 of the first `n` links of a channel's route.
@@ -23,26 +23,22 @@ fn route_passes(store: &[u64], x: usize, n: usize) -> bool
 }
 
 // Checks 1 to 5.
+#[tactic(auto, using(kinds::proofs::Laws::channel_is_ok, kinds::proofs::Laws::route_is_ok, kinds::proofs::Laws::within_true))]
 fn channel_fits(store: &[u64], x: usize) -> bool
     requires long { Long store.now }
     requires store_bound { links_of store.now ≤ most_links }
     requires x_lt_most_channels { x < most_channels }
     ensures { result ≡ channel_fits store.now x }
 {
-    let checked = Channel::new(
+    let good = Channel::new(
         channel::c(store, x),
         channel::p(store, x),
         channel::d(store, x),
         channel::b(store, x),
-    );
-    let CheckedChannel::Good(_) = checked else {
-        return false;
-    };
+    )
+    .is_ok();
     let hops = channel::hops(store, x);
-    let CheckedRoute::Good(_) = Route::new(hops) else {
-        return false;
-    };
-    route_passes(store, x, hops)
+    good && Route::new(hops).is_ok() && route_passes(store, x, hops)
 }
 
 // Whether at each place of the route the delay is 1 to p, and no more has been sent than has come.
