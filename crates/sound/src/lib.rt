@@ -9,7 +9,7 @@ ghost use Rattle.folds.specs.Folds.{every, sum_to};
 ghost use Rattle.store.specs.Sound.{counts_fit, link_fits, channel_sound, rows_sound, all_listed, sound_of};
 ghost use Rattle.store.specs.Ranged.{Fit};
 
-use kinds::{CheckedLink, Link, Network, Slot};
+use kinds::{Link, Network, Slot};
 use store::{channel, head, link};
 
 // Whether the counts of the head and the clock are in range.
@@ -27,19 +27,20 @@ fn counts_fit(store: &[u64]) -> bool
 }
 
 // Whether link `l` passes 16 and has no more rows than there is room for.
+#[tactic(auto, using(kinds::proofs::Laws::link_is_ok))]
 fn link_fits(store: &[u64], l: usize) -> bool
     requires long { Long store.now }
     requires l_lt_most_links { l < most_links }
     ensures { result ≡ link_fits store.now l }
 {
-    let from = link::from(store, l);
-    let to = link::to(store, l);
-    let horizon = link::horizon(store, l);
-    let buffer = link::buffer(store, l);
-    let CheckedLink::Good(_) = Link::new(from, to, horizon, buffer) else {
-        return false;
-    };
-    Link::rows_fit(link::rows(store, l))
+    let good = Link::new(
+        link::from(store, l),
+        link::to(store, l),
+        link::horizon(store, l),
+        link::buffer(store, l),
+    )
+    .is_ok();
+    good && Link::rows_fit(link::rows(store, l))
 }
 
 // Whether every link does.
