@@ -1,75 +1,65 @@
 -- A loop that marks the links it has seen: a link is marked exactly if it stands at a place passed.
-use Prim.Native.Nat.{ℕ, ◌+◌, ◌<◌}
-use mathlib.Core.Path.{◌≡◌, refl, sym, ap, ◌∙◌}
-use mathlib.Core.Bool.{true, false, not}
-use mathlib.Core.List.{List}
+use Rattle.std.proofs.Common.{◌≡◌, ◌<◌, ◌+◌, ℕ, Bool, true, false, not, ◌&&◌, refl, sym, arith}
+use Rattle.std.proofs.Common.{List, length, get_or, set, replicate, length-set}
+use mathlib.Core.Path.{ap, ◌∙◌}
 use native.Mathlib.Decide.{ℕ_discrete}
+use lib.Dec.{eqb}
 use native.Mathlib.Numerals.{add-one}
-use native.Mathlib.Omega.{arith}
-use lib.ListN.{length, get_or, set, replicate, length-set}
+use Rattle.std.proofs.lemmas.List.{get_or-replicate}
 use lib.Seq.{get_or-set_same, get_or-set_other}
 use borrow.Author.Tests.{eq-eqb, ne_eqb}
 use Rattle.kinds.specs.Ranges.{most_links}
-use Rattle.store.specs.Route.{differs, is_new}
-use Rattle.store.proofs.Laws.Layout.{zeros}
-use Rattle.folds.proofs.Folds.{below, every_false, every_true, Passing, passing_none, passing_more}
+use Rattle.folds.specs.Folds.{every}
+use Rattle.store.specs.Route.{is_new}
+use Rattle.folds.proofs.Folds.{every_none, every_false}
 
--- link l stands at place `at`, one of the first j
-pub record Stood (route : ℕ → ℕ) (j l : ℕ) : Type 0 where
-  pub at : ℕ
-  pub inside : at < j
-  pub is : route at ≡ l
+-- at place i stands another link than l
+abbrev pub other : (route : ℕ → ℕ) → (l i : ℕ) → Bool
+other route l i = not (eqb (route i) l)
 
-pub record Seeing (route : ℕ → ℕ) (n : ℕ) (seen : List ℕ) (j : ℕ) : Type 0 where
+-- the marks after j places
+pub record Marks (route : ℕ → ℕ) (seen : List Bool) (j : ℕ) : Type 0 where
   pub size : length seen ≡ most_links
-  pub passing : Passing (is_new route) n j
-  pub marked : (i : ℕ) → i < j → get_or seen (route i) 0 ≡ 1
-  pub only : (l : ℕ) → get_or seen l 0 ≡ 1 → Stood route j l
+  pub marked : (l : ℕ) → l < most_links → get_or seen l false ≡ not (every (other route l) j)
 
-pub seeing_none : (route : ℕ → ℕ) (n : ℕ) → Seeing route n (replicate most_links 0) 0
-seeing_none route n =
-    record {
-      size = refl;
-      passing = passing_none _ _;
-      marked = λ i h. absurd (omega arith);
-      only = λ l e. absurd (omega (arith, zeros most_links l));
-    }
+-- a place where f holds changes nothing
+kept : (f : ℕ → Bool) (j : ℕ) → f j ≡ true → every f (j + 1) ≡ every f j
+unfolding every
+kept f j e = rw (add-one j, every, e) (go (every f j))
+  where
+    go : (a : Bool) → (a && true) ≡ a
+    go true = refl
+    go false = refl
 
-module _ (route : ℕ → ℕ) (n : ℕ) (seen : List ℕ) (j : ℕ) (s : Seeing route n seen j) where
-  pub seeing_again : get_or seen (route j) 0 ≡ 1 → is_new route j ≡ false
-  seeing_again e =
-      let t = s.only (route j) e in
-      every_false (differs route j) j t.at t.inside (ap not (eq-eqb (route t.at) (route j) t.is))
+pub marks_none : (route : ℕ → ℕ) → Marks route (replicate most_links false) 0
+marks_none route = record {
+  size = refl;
+  marked = λ l h. get_or-replicate most_links l false false h ∙ sym (ap not (every_none (other route l)));
+}
 
-  pub seeing_new : (get_or seen (route j) 0 ≡ 1 → ⊥) → is_new route j ≡ true
-  seeing_new e =
-      every_true (differs route j) j (λ i h. ap not (ne_eqb (route i) (route j) (λ q. e (rw q at (s.marked i h)))))
+module _ {route : ℕ → ℕ} {seen : List Bool} {j : ℕ} (m : Marks route seen j) (few : route j < most_links) where
+  pub marks_more : Marks route (set seen (route j) true) (j + 1)
+  marks_more = record { size = length-set seen (route j) true ∙ m.size; marked = λ l h. go l h (ℕ_discrete l (route j)) }
+    where
+      go : (l : ℕ) → l < most_links → Dec (l ≡ route j)
+          → get_or (set seen (route j) true) l false ≡ not (every (other route l) (j + 1))
+      go l h (yes e) =
+          let f = every_false (other route l) (j + 1) j (omega arith) (ap not (eq-eqb (route j) l (sym e))) in
+          rw f (rw e (get_or-set_same seen (route j) true false (omega (arith, m.size))))
+      go l h (no n) =
+          let f : other route l j ≡ true = ap not (ne_eqb (route j) l (λ e. n (sym e))) in
+          get_or-set_other seen (route j) l true false n ∙ m.marked l h ∙ ap not (sym (kept (other route l) j f))
 
-  module _ (inside : j < n) (few : route j < most_links) (new : get_or seen (route j) 0 ≡ 1 → ⊥) where
-    here : get_or (set seen (route j) 1) (route j) 0 ≡ 1
-    here = get_or-set_same seen (route j) 1 0 (omega (arith, s.size))
+  pub again : get_or seen (route j) false ≡ true → is_new route j ≡ false
+  again e = go (is_new route j) (m.marked (route j) few)
+    where
+      go : (t : Bool) → get_or seen (route j) false ≡ not t → t ≡ false
+      go true q = sym e ∙ q
+      go false q = refl
 
-    stays : (l : ℕ) → get_or seen l 0 ≡ 1 → get_or (set seen (route j) 1) l 0 ≡ 1
-    stays l e = go (ℕ_discrete l (route j))
-      where
-        go : Dec (l ≡ route j) → get_or (set seen (route j) 1) l 0 ≡ 1
-        go (yes q) = rw q here
-        go (no q) = get_or-set_other seen (route j) l 1 0 q ∙ e
-
-    stood : (l : ℕ) → get_or (set seen (route j) 1) l 0 ≡ 1 → Stood route (j + 1) l
-    stood l e = go (ℕ_discrete l (route j))
-      where
-        go : Dec (l ≡ route j) → Stood route (j + 1) l
-        go (yes q) = record { at = j; inside = omega arith; is = sym q }
-        go (no q) =
-            let t = s.only l (sym (get_or-set_other seen (route j) l 1 0 q) ∙ e) in
-            record { at = t.at; inside = omega (arith, t.inside); is = t.is }
-
-    pub seeing_more : Seeing route n (set seen (route j) 1) (j + 1)
-    seeing_more =
-        record {
-          size = length-set seen (route j) 1 ∙ s.size;
-          passing = passing_more _ _ j s.passing inside (seeing_new new);
-          marked = λ i h. below i j (rw add-one at h) (λ l. stays (route i) (s.marked i l)) (λ q. rw q here);
-          only = stood;
-        }
+  pub new : get_or seen (route j) false ≡ false → is_new route j ≡ true
+  new e = go (is_new route j) (m.marked (route j) few)
+    where
+      go : (t : Bool) → get_or seen (route j) false ≡ not t → t ≡ true
+      go true q = refl
+      go false q = sym e ∙ q

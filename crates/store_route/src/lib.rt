@@ -5,7 +5,7 @@
 ghost use Rattle.std.specs.Prelude.{◌≡◌, true, ◌+◌, ◌≤◌, ◌<◌, length};
 ghost use Rattle.kinds.specs.Ranges.{most_links, most_channels, most_hops, most_c};
 ghost use Rattle.store.specs.Layout.{Long, links_of, hops_of, delay_of, sent_of};
-ghost use Rattle.folds.specs.Folds.{every, first_not, sum_to};
+ghost use Rattle.folds.specs.Folds.{every, failing, sum_to};
 ghost use Rattle.store.specs.Route.{from, exists, is_new, joins, Known, route_passes};
 ghost use Rattle.store.specs.Amounts.{later_reserved, reserved_of, entered_of, held_of};
 ghost use Rattle.store.specs.Ranged.{Ranged, SmallDelays, Near};
@@ -13,45 +13,37 @@ ghost use Rattle.store.specs.Ranged.{Ranged, SmallDelays, Near};
 use kinds::Network;
 use store::{channel, head, link};
 
-// 3: the first place with a link number that does not exist, or `n`.
-pub fn unknown_link(store: &[u64], numbers: &[u64], at: usize, n: usize) -> usize
+// 3: the first place with a link number that does not exist.
+pub fn unknown_link(store: &[u64], numbers: &[u64], at: usize, n: usize) -> Option<usize>
     requires long { Long store.now }
     requires n_in_bounds { at + n ≤ length numbers.now }
-    ensures { result ≡ first_not (exists store.now (from numbers.now at)) n }
+    ensures { result ≡ failing (exists store.now (from numbers.now at)) n }
 {
     let links = head::links(store);
-    let mut j: usize = 0;
-    while j < n {
-        let unknown = numbers[at + j] as usize >= links;
-        if unknown {
-            return j;
-        }
-        j += 1;
-    }
-    n
+    (0..n).find(|&j| numbers[at + j] as usize >= links)
 }
 
-// 4: the first place with a link that stands before, or `n`. The links are known to exist.
-pub fn repeated_link(numbers: &[u64], at: usize, n: usize) -> usize
+// 4: the first place with a link that stands before. The links are known to exist.
+#[tactic(auto, using(crate::proofs::Seen::marks_none, folds::proofs::Folds::every_none))]
+pub fn repeated_link(numbers: &[u64], at: usize, n: usize) -> Option<usize>
     requires n_in_bounds { at + n ≤ length numbers.now }
     requires known { Known (from numbers.now at) n }
-    ensures { result ≡ first_not (is_new (from numbers.now at)) n }
+    ensures { result ≡ failing (is_new (from numbers.now at)) n }
 {
-    // 1 where a link stands at a place before
-    let mut seen = [0u64; Network::MOST_LINKS];
-    let mut j: usize = 0;
-    while j < n {
+    // whether a link stands at a place before
+    let mut seen = [false; Network::MOST_LINKS];
+    for j in 0..n {
         let l = numbers[at + j] as usize;
-        if seen[l] == 1 {
-            return j;
+        if seen[l] {
+            return Some(j);
         }
-        seen[l] = 1;
-        j += 1;
+        seen[l] = true;
     }
-    n
+    None
 }
 
 // Whether the link at place `j` starts where the one before ends.
+#[tactic(auto, using(store::proofs::Laws::Amounts::joins_first, store::proofs::Laws::Amounts::joins_later))]
 fn is_joined(store: &[u64], numbers: &[u64], at: usize, j: usize) -> bool
     requires long { Long store.now }
     requires j_in_bounds { at + j < length numbers.now }
@@ -67,25 +59,19 @@ fn is_joined(store: &[u64], numbers: &[u64], at: usize, j: usize) -> bool
     link::from(store, here) == link::to(store, before)
 }
 
-// 5: the first place with a link that does not start where the one before ends, or `n`.
-pub fn parted_link(store: &[u64], numbers: &[u64], at: usize, n: usize) -> usize
+// 5: the first place with a link that does not start where the one before ends.
+pub fn parted_link(store: &[u64], numbers: &[u64], at: usize, n: usize) -> Option<usize>
     requires long { Long store.now }
     requires n_in_bounds { at + n ≤ length numbers.now }
     requires store_bound { links_of store.now ≤ most_links }
     requires n_value { every (exists store.now (from numbers.now at)) n ≡ true }
-    ensures { result ≡ first_not (joins store.now (from numbers.now at)) n }
+    ensures { result ≡ failing (joins store.now (from numbers.now at)) n }
 {
-    let mut j: usize = 0;
-    while j < n {
-        if !is_joined(store, numbers, at, j) {
-            return j;
-        }
-        j += 1;
-    }
-    n
+    (0..n).find(|&j| !is_joined(store, numbers, at, j))
 }
 
 // Whether the first `n` links pass 3, 4 and 5, where it does not matter which one fails: in one pass.
+#[tactic(auto, using(crate::proofs::Seen::marks_none, folds::proofs::Folds::every_none))]
 pub fn passes(store: &[u64], numbers: &[u64], at: usize, n: usize) -> bool
     requires long { Long store.now }
     requires n_in_bounds { at + n ≤ length numbers.now }
@@ -93,22 +79,17 @@ pub fn passes(store: &[u64], numbers: &[u64], at: usize, n: usize) -> bool
     ensures { result ≡ route_passes store.now (from numbers.now at) n }
 {
     let links = head::links(store);
-    // 1 where a link stands at a place before
-    let mut met = [0u64; Network::MOST_LINKS];
-    let mut j: usize = 0;
-    while j < n {
+    // whether a link stands at a place before
+    let mut met = [false; Network::MOST_LINKS];
+    for j in 0..n {
         let l = numbers[at + j] as usize;
-        if l >= links {
+        if l >= links || met[l] {
             return false;
         }
-        if met[l] == 1 {
-            return false;
-        }
-        met[l] = 1;
+        met[l] = true;
         if !is_joined(store, numbers, at, j) {
             return false;
         }
-        j += 1;
     }
     true
 }
@@ -127,6 +108,7 @@ pub fn later_reserved(c: u64, p: u64, horizon: u64, before: u64, here: u64) -> u
 }
 
 // The packets reserved for a channel at place `j` of its route.
+#[tactic(auto, using(store::proofs::Laws::Amounts::reserved_first, store::proofs::Laws::Amounts::reserved_later))]
 pub fn reserved(store: &[u64], x: usize, j: usize) -> u64
     requires ranged { Ranged store.now x }
     requires j_bound { j < hops_of store.now x }
@@ -143,6 +125,7 @@ pub fn reserved(store: &[u64], x: usize, j: usize) -> u64
 }
 
 // The delays of a channel before place `j` of its route.
+#[tactic(auto, using(folds::proofs::Folds::sum_none, folds::proofs::Folds::sum_more))]
 pub fn offset(store: &[u64], x: usize, j: usize) -> u64
     requires long { Long store.now }
     requires x_lt_most_channels { x < most_channels }
@@ -151,15 +134,14 @@ pub fn offset(store: &[u64], x: usize, j: usize) -> u64
     ensures { result ≡ sum_to (delay_of store.now x) j }
 {
     let mut sum: u64 = 0;
-    let mut i: usize = 0;
-    while i < j {
+    for i in 0..j {
         sum += channel::delay(store, x, i);
-        i += 1;
     }
     sum
 }
 
 // The packets that have come to place `j` of a channel's route.
+#[tactic(auto, using(store::proofs::Laws::Amounts::entered_first, store::proofs::Laws::Amounts::entered_later))]
 pub fn entered(store: &[u64], x: usize, j: usize) -> u64
     requires long { Long store.now }
     requires x_lt_most_channels { x < most_channels }
