@@ -40,16 +40,9 @@ fn follows(store: &[u64], x: usize, before: usize, at: usize, sent: u64) -> bool
 {
     let start = channel::end_in(store, x, before);
     let end = channel::end_in(store, x, at);
-    if end <= start {
-        return false;
-    }
-    if end - start > channel::c(store, x) {
-        return false;
-    }
-    if start <= sent {
-        return true;
-    }
-    is_apart(store, x, before, at)
+    start < end
+        && end - start <= channel::c(store, x)
+        && (start <= sent || is_apart(store, x, before, at))
 }
 
 // Whether messages are in order, from message `last` back to one that is delivered: those that are not are among the `most`
@@ -63,24 +56,17 @@ pub fn in_order(store: &[u64], x: usize, last: u64, most: u64) -> bool
     ensures { result ≡ in_order store.now x last most }
 {
     let sent = channel::sent(store, x, channel::hops(store, x) - 1);
-    let mut n = last;
-    // the place of message `n` in the ring
+    // the place of message `last - back` in the ring
     let mut at = channel::ring_place(last);
-    let mut left = most;
-    while left > 0 {
+    for back in 0..most {
         if channel::end_in(store, x, at) <= sent {
             return true;
         }
-        if n == 0 {
-            return false;
-        }
         let before = channel::place_before(at);
-        if !follows(store, x, before, at, sent) {
+        if back == last || !follows(store, x, before, at, sent) {
             return false;
         }
-        n -= 1;
         at = before;
-        left -= 1;
     }
     channel::end_in(store, x, at) <= sent
 }
@@ -97,10 +83,7 @@ fn time_fits(store: &[u64], x: usize, n: u64) -> bool
     ensures { result ≡ time_fits store.now x }
 {
     let time = channel::time(store, x, n);
-    if time <= EARLY {
-        return true;
-    }
-    if n == 0 {
+    if time <= EARLY || n == 0 {
         return true;
     }
     if !Slot::is_number(time) {
@@ -121,14 +104,8 @@ pub fn messages_fit(store: &[u64], x: usize) -> bool
     ensures { result ≡ messages_fit store.now x }
 {
     let n = channel::messages(store, x);
-    if !Slot::is_number(n) {
-        return false;
-    }
-    if !time_fits(store, x, n) {
-        return false;
-    }
-    if channel::end(store, x, n) > channel::c(store, x) * n {
-        return false;
-    }
-    in_order(store, x, n, store::UNDELIVERED)
+    Slot::is_number(n)
+        && time_fits(store, x, n)
+        && channel::end(store, x, n) <= channel::c(store, x) * n
+        && in_order(store, x, n, store::UNDELIVERED)
 }
