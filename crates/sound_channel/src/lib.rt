@@ -42,46 +42,33 @@ fn channel_fits(store: &[u64], x: usize) -> bool
 }
 
 // Whether at each place of the route the delay is 1 to p, and no more has been sent than has come.
+#[tactic(auto, using(folds::proofs::Folds::every_none, folds::proofs::Folds::every_more, store::proofs::Laws::Amounts::entered_later))]
 fn places_fit(store: &[u64], x: usize) -> bool
     requires long { Long store.now }
     requires x_lt_most_channels { x < most_channels }
     requires x_bound { hops_of store.now x ≤ most_hops }
     ensures { result ≡ every (place_fits store.now x) (hops_of store.now x) }
 {
-    let hops = channel::hops(store, x);
     let p = channel::p(store, x);
     let mut entered = store_route::entered(store, x, 0);
-    let mut j: usize = 0;
-    while j < hops {
+    for j in 0..channel::hops(store, x) {
         let delay = channel::delay(store, x, j);
-        if delay < 1 {
-            return false;
-        }
-        if delay > p {
-            return false;
-        }
         let sent = channel::sent(store, x, j);
-        if sent > entered {
+        if delay < 1 || delay > p || sent > entered {
             return false;
         }
         entered = sent;
-        j += 1;
     }
     true
 }
 
 // Whether channel `x` is sound.
+#[tactic(auto, using(crate::proofs::Laws::small_delay))]
 pub fn channel_is_sound(store: &[u64], x: usize) -> bool
     requires long { Long store.now }
     requires store_bound { links_of store.now ≤ most_links }
     requires x_lt_most_channels { x < most_channels }
     ensures { result ≡ channel_sound store.now x }
 {
-    if !channel_fits(store, x) {
-        return false;
-    }
-    if !places_fit(store, x) {
-        return false;
-    }
-    sound_messages::messages_fit(store, x)
+    channel_fits(store, x) && places_fit(store, x) && sound_messages::messages_fit(store, x)
 }
