@@ -13,14 +13,11 @@ pub fn clear(store: &mut [u64])
     requires { Long store.old }
     ensures { store.new ≡ zeroed store.old }
 {
-    let mut at: usize = 0;
-    while at < LENGTH {
-        store[at] = 0;
-        at += 1;
-    }
+    store[..LENGTH].fill(0);
 }
 
 // Link `l`'s four numbers, from the list into the store.
+#[tactic(auto, unfolding(crate::specs::Fresh::link_written))]
 fn put_link(store: &mut [u64], links: &[u64], l: usize)
     requires long { Long store.old }
     requires l_lt_most_links { l < most_links }
@@ -35,15 +32,14 @@ fn put_link(store: &mut [u64], links: &[u64], l: usize)
 }
 
 // The first `n` links.
+#[tactic(auto, using(crate::proofs::Laws::Written::links_none, crate::proofs::Laws::Written::links_more))]
 pub fn put_links(store: &mut [u64], links: &[u64], n: usize)
     requires long { Long store.old }
     requires n_le_most_links { n ≤ most_links }
     requires n_in_bounds { 4 * n ≤ length links.now }
     ensures { store.new ≡ links_written store.old links.now n }
 {
-    let mut l: usize = 0;
-    while l < n {
+    for l in 0..n {
         put_link(store, links, l);
-        l += 1;
     }
 }

@@ -1,7 +1,8 @@
 -- What set-up writes: the store cleared, and the links' numbers in it, number by number.
-use Prim.Native.Nat.{ℕ, zero, suc, ◌≤◌, ◌<◌}
+use Prim.Native.Nat.{ℕ, zero, suc, ◌+◌, ◌≤◌, ◌<◌}
 use mathlib.Core.Path.{◌≡◌, refl, sym, ◌∙◌}
 use mathlib.Core.List.{List, ◌++◌}
+use native.Mathlib.Numerals.{add-one}
 use native.Mathlib.Omega.{arith}
 use lib.ListN.{length, replicate, take, drop, length-set, length-append, length-replicate, length-drop, get_or-replicate}
 use lib.ListN.{get_or-append}
@@ -112,6 +113,14 @@ module _ (w : Store) (numbers : List ℕ) (l : ℕ) where
 
 -- the links' numbers written one after the other
 module _ (w : Store) (numbers : List ℕ) where
+  pub links_none : links_written w numbers 0 ≡ w
+  unfolding links_written
+  links_none = refl
+
+  pub links_more : (n : ℕ) → links_written w numbers (n + 1) ≡ link_written (links_written w numbers n) numbers n
+  unfolding links_written
+  links_more n = rw (add-one n, links_written)
+
   pub links_length_lem : (n : ℕ) → length (links_written w numbers n) ≡ length w
   unfolding links_written
   links_length_lem zero = refl
