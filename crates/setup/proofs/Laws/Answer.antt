@@ -13,7 +13,9 @@ use Rattle.folds.specs.Folds.{first_not}
 use Rattle.store.specs.Layout.{Store, Long, store_length, from_of, to_of, horizon_of, buffer_of}
 use Rattle.store.specs.Sound.{long_enough}
 use Rattle.folds.proofs.Folds.{every_at}
-use Rattle.setup.specs.declared.SetUp.TheVariants.{Ready, Refused}
+use Rattle.kinds.specs.declared.Refusal.{Refusal}
+use Rattle.kinds.specs.declared.Refusal.TheVariants.{BadLinks, NotSound}
+use Rattle.std.specs.declared.result.Result.TheVariants.{Ok, Err}
 use Rattle.setup_list.proofs.Laws.Links.{passes_at}
 use Rattle.setup_fresh.proofs.Laws.Fresh.{fresh_from, fresh_to, fresh_horizon, fresh_buffer}
 use Rattle.setup_list.specs.List.{links_in, from_in, to_in, horizon_in, buffer_in, link_passes_at, links_pass}
@@ -28,21 +30,21 @@ pub record Accepted (w : Store) (numbers : List ℕ) : Type 0 where
 
 module _ (w : Store) (numbers : List ℕ) where
   -- the answer, case by case
-  pub refused_count : in_range_links (links_in numbers) ≡ false → set_up_answer w numbers ≡ Refused 16 0
+  pub refused_count : in_range_links (links_in numbers) ≡ false → set_up_answer w numbers ≡ Err (BadLinks 0)
   unfolding set_up_answer
   refused_count c = rw (c, set_up_answer)
 
   pub refused_link : in_range_links (links_in numbers) ≡ true → links_pass numbers ≡ false
-      → set_up_answer w numbers ≡ Refused 16 (first_not (link_passes_at numbers) (links_in numbers))
+      → set_up_answer w numbers ≡ Err (BadLinks (first_not (link_passes_at numbers) (links_in numbers)))
   unfolding set_up_answer
   refused_link c p = rw (c, p, set_up_answer)
 
   pub refused_short : in_range_links (links_in numbers) ≡ true → links_pass numbers ≡ true → length w < store_length
-      → set_up_answer w numbers ≡ Refused 17 0
+      → set_up_answer w numbers ≡ Err NotSound
   unfolding set_up_answer
   refused_short c p s = rw (c, p, lt-leb _ _ s, set_up_answer)
 
-  pub accepted_ready : Accepted w numbers → set_up_answer w numbers ≡ Ready
+  pub accepted_ready : Accepted w numbers → set_up_answer w numbers ≡ Ok tt
   unfolding set_up_answer
   accepted_ready a = rw (a.count, a.pass, le-leb _ _ a.long, set_up_answer)
 
@@ -65,25 +67,25 @@ module _ (w : Store) (numbers : List ℕ) where
       counted true c = passed (links_pass numbers) refl c
       counted false c = count c
 
-  pub ready_accepted : set_up_answer w numbers ≡ Ready → Accepted w numbers
+  pub ready_accepted : set_up_answer w numbers ≡ Ok tt → Accepted w numbers
   ready_accepted e =
       cases
-      (λ c. no 16 0 (refused_count c))
-      (λ c p. no 16 _ (refused_link c p))
-      (λ c p h. no 17 0 (refused_short c p h))
+      (λ c. no _ (refused_count c))
+      (λ c p. no _ (refused_link c p))
+      (λ c p h. no _ (refused_short c p h))
       (λ a. a)
     where
-      no : (number place : ℕ) → set_up_answer w numbers ≡ Refused number place → Accepted w numbers
-      no number place r = absurd (let z : ◌≡◌ {A = ℕ} 0 1 = cc in omega arith)
+      no : (refusal : Refusal) → set_up_answer w numbers ≡ Err refusal → Accepted w numbers
+      no refusal r = absurd (let z : ◌≡◌ {A = ℕ} 0 1 = cc in omega arith)
 
   -- the store after it
-  pub ready_store : set_up_answer w numbers ≡ Ready → set_up_store w numbers ≡ fresh_store w numbers
+  pub ready_store : set_up_answer w numbers ≡ Ok tt → set_up_store w numbers ≡ fresh_store w numbers
   unfolding set_up_store
   ready_store e = rw e
 
-  pub refused_store : (number place : ℕ) → set_up_answer w numbers ≡ Refused number place → set_up_store w numbers ≡ w
+  pub refused_store : (refusal : Refusal) → set_up_answer w numbers ≡ Err refusal → set_up_store w numbers ≡ w
   unfolding set_up_store
-  refused_store number place e = rw e
+  refused_store refusal e = rw e
 
 -- what is accepted: the count as bounds, each link in range
 module _ (w : Store) (numbers : List ℕ) (a : Accepted w numbers) where

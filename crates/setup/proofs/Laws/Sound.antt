@@ -10,7 +10,7 @@ use Rattle.store.specs.Layout.{Store, links_of, from_of, to_of, horizon_of, buff
 use Rattle.store.specs.Sound.{row_reserved_of, sound_of}
 use Rattle.folds.proofs.Folds.{sum_none}
 use Rattle.store.proofs.Laws.Sound.{Counts, LinkIs, RowsAre, Sound, is_sound}
-use Rattle.setup.specs.declared.SetUp.TheVariants.{Ready}
+use Rattle.std.specs.declared.result.Result.TheVariants.{Ok}
 use Rattle.setup_list.specs.List.{links_in}
 use Rattle.setup_fresh.specs.Fresh.{fresh_store}
 use Rattle.setup.specs.SetUp.{set_up_answer, set_up_store}
@@ -69,6 +69,6 @@ module _ (w : Store) (numbers : List ℕ) (a : Accepted w numbers) where
         row = λ x j h k. absurd (omega (arith, fresh_channels w numbers));
       }
 
-pub set_up_sound : (w : Store) (numbers : List ℕ) → set_up_answer w numbers ≡ Ready → sound_of (set_up_store w numbers) ≡ true
+pub set_up_sound : (w : Store) (numbers : List ℕ) → set_up_answer w numbers ≡ Ok tt → sound_of (set_up_store w numbers) ≡ true
 set_up_sound w numbers e =
     rw (ready_store w numbers e) (is_sound (fresh_store w numbers) (fresh_sound w numbers (ready_accepted w numbers e)))
