@@ -3,13 +3,16 @@
 use Rattle.std.specs.Prelude.{ℕ, ◌+◌, Bool, List, [], ◌∷◌, ◌++◌, leb, ltb}
 use Rattle.kinds.specs.Ranges.{in_range_hops, most_channels, most_rows, end_slot}
 use Rattle.kinds.specs.Checks.{channel_passes}
+use Rattle.kinds.specs.declared.Refusal.{Refusal}
+use Rattle.kinds.specs.declared.Refusal.TheVariants.{Range, RouteLength, NoLink, LinkTwice, LinksApart, ChannelsFull, RowsFull}
+use Rattle.kinds.specs.declared.Refusal.TheVariants.{NoResponse, OverD, BufferFull, EndSlot, NotSound}
+use Rattle.std.specs.declared.result.Result.{Result}
+use Rattle.std.specs.declared.result.Result.TheVariants.{Err}
 use Rattle.folds.specs.Folds.{sum_to}
 use Rattle.store.specs.Layout.{Store, channels_of, clock_of, rows_of, with_channels}
 use Rattle.store.specs.Route.{exists, is_new, joins}
 use Rattle.store.specs.Sound.{sound_of}
 use Rattle.checks.specs.Checks.{Check, check, check_all, first_failed}
-use Rattle.open_rules.specs.declared.Outcome.{Outcome}
-use Rattle.open_rules.specs.declared.Outcome.TheVariants.{Refused}
 use Rattle.open_rules.specs.Request.{Request, hops, link}
 use Rattle.open_rules.specs.Search.{responds, responses}
 use Rattle.open_rules.specs.Shares.{delays, fits_buffer}
@@ -38,25 +41,25 @@ takes_row w route j = ltb (rows_of w (route j)) most_rows
 -- 17, 14 and 1 to 7: what can be said before the search
 abbrev pub early_checks : Store → Request → List Check
 early_checks w q =
-    check 17 (sound_of w)
-    ∷ (check 14 (ltb (clock_of w) end_slot)
-    ∷ (check 1 (channel_passes q.c q.p q.d q.b)
-    ∷ (check 2 (in_range_hops (hops q))
-    ∷ (check_all 3 (exists w (link q)) (hops q)
-    ∷ (check_all 4 (is_new (link q)) (hops q)
-    ∷ (check_all 5 (joins w (link q)) (hops q)
-    ∷ (check 6 (ltb (channels_of w) most_channels)
-    ∷ (check_all 7 (takes_row w (link q)) (hops q)
+    check NotSound (sound_of w)
+    ∷ (check EndSlot (ltb (clock_of w) end_slot)
+    ∷ (check Range (channel_passes q.c q.p q.d q.b)
+    ∷ (check RouteLength (in_range_hops (hops q))
+    ∷ (check_all NoLink (exists w (link q)) (hops q)
+    ∷ (check_all LinkTwice (is_new (link q)) (hops q)
+    ∷ (check_all LinksApart (joins w (link q)) (hops q)
+    ∷ (check ChannelsFull (ltb (channels_of w) most_channels)
+    ∷ (check_all RowsFull (takes_row w (link q)) (hops q)
     ∷ []))))))))
 
 -- 8 to 10, and 17 if "the call would leave one that is not" sound
 abbrev pub late_checks : Store → Request → List Check
 late_checks w q =
-    check_all 8 (responds w q.c q.p (link q)) (hops q)
-    ∷ (check 9 (leb (sum_to (responses_of w q) (hops q)) q.d)
-    ∷ (check_all 10 (fits_buffer w (link q) (reserved_for w q)) (hops q)
-    ∷ (check 17 (sound_of (opened w q))
+    check_all NoResponse (responds w q.c q.p (link q)) (hops q)
+    ∷ (check OverD (leb (sum_to (responses_of w q) (hops q)) q.d)
+    ∷ (check_all BufferFull (fits_buffer w (link q) (reserved_for w q)) (hops q)
+    ∷ (check NotSound (sound_of (opened w q))
     ∷ [])))
 
-abbrev pub open_refusal : Store → Request → (passed : Outcome) → Outcome
-open_refusal w q passed = first_failed Refused (early_checks w q ++ late_checks w q) passed
+abbrev pub open_refusal : Store → Request → (passed : Result ℕ Refusal) → Result ℕ Refusal
+open_refusal w q passed = first_failed Err (early_checks w q ++ late_checks w q) passed

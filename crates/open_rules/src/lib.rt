@@ -2,19 +2,13 @@
 // above work it out.
 #![tactic(auto)]
 
-use kinds::Route;
+use kinds::{Refusal, Route};
 
-// The channel's number, or the refusal's number and place.
-#[derive(Clone, Copy)]
-pub enum Outcome {
-    Refused(u64, u64),
-    Accepted(u64),
-}
-
-// The outcome, and beside it the numbers of each link, along the route: all 0 on a refusal and past the end of the route.
+// The channel's number or the refusal, and beside it the numbers of each link, along the route: all 0 on a refusal and past the
+// end of the route.
 #[derive(Clone, Copy)]
 pub struct Opening {
-    pub outcome: Outcome,
+    pub outcome: Result<u64, Refusal>,
     pub responses: [u64; Route::MOST_HOPS],
     pub delays: [u64; Route::MOST_HOPS],
     pub reserved: [u64; Route::MOST_HOPS],

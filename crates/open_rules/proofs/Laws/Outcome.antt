@@ -1,11 +1,13 @@
--- A refused open is not an accepted one, and refusals that are the same have the same number.
+-- A refused open is not an accepted one, and outcomes that are the same have the same refusal.
 use Prim.Native.Nat.{ℕ}
 use mathlib.Core.Path.{◌≡◌}
 use native.Mathlib.Omega.{arith}
-use Rattle.open_rules.specs.declared.Outcome.TheVariants.{Accepted, Refused}
+use Rattle.kinds.specs.declared.Refusal.{Refusal}
+use Rattle.std.specs.declared.result.Result.{Result}
+use Rattle.std.specs.declared.result.Result.TheVariants.{Ok, Err}
 
-pub refused_accepted : (channel number place : ℕ) → Refused number place ≡ Accepted channel → ⊥
-refused_accepted channel number place e = let z : ◌≡◌ {A = ℕ} 0 1 = cc e in omega arith
+pub refused_accepted : (channel : ℕ) (refusal : Refusal) → Err refusal ≡ Ok channel → ⊥
+refused_accepted channel refusal e = let z : ◌≡◌ {A = ℕ} 0 1 = cc e in omega arith
 
-pub refused_number : (m n i at : ℕ) → Refused m i ≡ Refused n at → m ≡ n
-refused_number m n i at e = cc e
+pub refused_same : (m n : Refusal) → ◌≡◌ {A = Result ℕ Refusal} (Err m) (Err n) → m ≡ n
+refused_same m n e = cc e
