@@ -15,19 +15,13 @@ fn rows_before(store: &[u64], l: usize, d: u64) -> usize
     ensures { result ≡ rows_before store.now l d }
 {
     let rows = link::rows(store, l);
-    let mut above: usize = 0;
-    while above < rows {
-        if channel::delay(
-            store,
-            link::row_channel(store, l, above),
-            link::row_place(store, l, above),
-        ) > d
-        {
-            return above;
-        }
-        above += 1;
-    }
-    rows
+    (0..rows)
+        .find(|&k| {
+            let x = link::row_channel(store, l, k);
+            let j = link::row_place(store, l, k);
+            channel::delay(store, x, j) > d
+        })
+        .unwrap_or(rows)
 }
 
 // Row `at` of link `l` becomes channel `x` at place `j`; the rows from there on, to the last of `rows`, go one further down.
@@ -39,21 +33,20 @@ fn put_row(store: &mut [u64], l: usize, at: usize, rows: usize, x: usize, j: usi
 {
     let mut channel = x;
     let mut place = j;
-    let mut k = at;
-    while k < rows {
+    for k in at..rows {
         let next_channel = link::row_channel(store, l, k);
         let next_place = link::row_place(store, l, k);
         link::put_row_channel(store, l, k, channel);
         link::put_row_place(store, l, k, place);
         channel = next_channel;
         place = next_place;
-        k += 1;
     }
-    link::put_row_channel(store, l, k, channel);
-    link::put_row_place(store, l, k, place);
+    link::put_row_channel(store, l, rows, channel);
+    link::put_row_place(store, l, rows, place);
 }
 
 // The row of channel `x` at place `j` joins its link's order.
+#[tactic(auto, using(folds::proofs::Folds::first_most), unfolding(open_rules::specs::Join::row_joined))]
 pub fn join_row(store: &mut [u64], x: usize, j: usize)
     requires x_lt_most_channels { x < most_channels }
     requires j_lt_most_hops { j < most_hops }
