@@ -1,10 +1,14 @@
 -- Document 01, "Numbers given back on a refusal", number 18: the response-time calculation by itself.
 use Rattle.std.specs.Prelude.{ℕ, List, Bool, true, false, ◌&&◌, length}
+use Rattle.std.specs.Option.{unwrap_or}
+use Rattle.std.specs.declared.result.Result.{Result}
+use Rattle.std.specs.declared.result.Result.TheVariants.{Ok, Err}
 use Rattle.kinds.specs.Ranges.{in_range_c, in_range_p, in_range_rows}
+use Rattle.kinds.specs.declared.Refusal.{Refusal}
+use Rattle.kinds.specs.declared.Refusal.TheVariants.{BadTable}
+use Rattle.kinds.specs.Refusals.{number_of, place_of}
 use Rattle.response.specs.declared.Row.{Row}
-use Rattle.response.specs.declared.Answer.TheVariants.{Found, Nothing}
-use Rattle.response.specs.declared.Reply.{Reply}
-use Rattle.response.specs.declared.Reply.TheVariants.{Answered, Refused}
+use Rattle.response.specs.declared.Answer.{Answer}
 use Rattle.response.specs.Trials.{response}
 use Rattle.response.specs.Numbers.{rows_in, whole_rows, rows_in_range}
 
@@ -13,15 +17,15 @@ use Rattle.response.specs.Numbers.{rows_in, whole_rows, rows_in_range}
 abbrev pub askable : List Row → (own limit : ℕ) → Bool
 askable rows own limit = in_range_rows (length rows) && (in_range_c own && (in_range_p limit && rows_in_range rows))
 
-abbrev pub refused18 : Reply
-refused18 = Refused 18 0
+abbrev pub refused18 : Result Answer Refusal
+refused18 = Err BadTable
 
 -- the answer to the call on rows
-unfoldable pub alone : List Row → (own limit : ℕ) → Reply
-alone rows own limit = elim (askable rows own limit) [ true ↦ Answered (response own rows limit) | false ↦ refused18 ]
+unfoldable pub alone : List Row → (own limit : ℕ) → Result Answer Refusal
+alone rows own limit = elim (askable rows own limit) [ true ↦ Ok (response own rows limit) | false ↦ refused18 ]
 
 -- the answer to the call on numbers, three a row: a part of a row left over is refused too
-unfoldable pub alone_on : List ℕ → (own limit : ℕ) → Reply
+unfoldable pub alone_on : List ℕ → (own limit : ℕ) → Result Answer Refusal
 alone_on numbers own limit = elim (whole_rows numbers) [ true ↦ alone (rows_in numbers) own limit | false ↦ refused18 ]
 
 abbrev pub askable_on : List ℕ → (own limit : ℕ) → Bool
@@ -36,7 +40,6 @@ pub record Values : Type 0 where
   pub response : ℕ
   pub trials : ℕ
 
-abbrev pub values_of : Reply → (response trials : ℕ) → Values
-values_of (Answered (Found r k)) response trials = record { number = 0; place = 0; response = r; trials = k }
-values_of (Answered (Nothing k)) response trials = record { number = 0; place = 0; response = 0; trials = k }
-values_of (Refused n at) response trials = record { number = n; place = at; response = response; trials = trials }
+abbrev pub values_of : Result Answer Refusal → (response trials : ℕ) → Values
+values_of (Ok a) response trials = record { number = 0; place = 0; response = unwrap_or a.response 0; trials = a.trials }
+values_of (Err e) response trials = record { number = number_of e; place = place_of e; response = response; trials = trials }

@@ -1,10 +1,10 @@
 -- What makes an answer right, in document 01's words, for any need `f` and start `s`. `proofs/Laws/Trials.antt` shows
 -- it of every answer that `response` gives.
 use Rattle.std.specs.Prelude.{ℕ, suc, ◌+◌, ◌-◌, ◌≤◌, ◌<◌, ◌≡◌, ◌≢◌, List}
+use Rattle.std.specs.declared.option.Option.TheVariants.{None, Some}
 use Rattle.response.specs.declared.Row.{Row}
 use Rattle.response.specs.declared.Answer.{Answer}
-use Rattle.response.specs.declared.Answer.TheVariants.{Found, Nothing}
-use Rattle.response.specs.Trials.{length_after, response}
+use Rattle.response.specs.Trials.{found, length_after, response}
 
 -- "The response is the least r, from 1 to a limit, whose need is at most r."
 pub record Least (f : ℕ → ℕ) (limit r : ℕ) : Type 0 where
@@ -35,11 +35,14 @@ pub record Equal (f : ℕ → ℕ) (s r k : ℕ) : Type 0 where
 
 -- an answer is right: the least response or none, the count of the trials made, and what ended them
 abbrev pub Right : (ℕ → ℕ) → (limit s : ℕ) → Answer → Type 0
-Right f limit s (Found r k) = Least f limit r × Trials f limit s k × Equal f s r k
-Right f limit s (Nothing k) = NoneWithin f limit × Trials f limit s k × (limit < length_after f s k)
+Right f limit s a =
+    elim a.response [
+      | Some r ↦ Least f limit r × Trials f limit s a.trials × Equal f s r a.trials
+      | None ↦ NoneWithin f limit × Trials f limit s a.trials × (limit < length_after f s a.trials)
+    ]
 
 -- a channel with packets `own` has a response below the rows `above` within the limit
 pub record HasResponse (own : ℕ) (above : List Row) (limit : ℕ) : Type 0 where
   pub length : ℕ
   pub trials : ℕ
-  pub found : response own above limit ≡ Found length trials
+  pub found : response own above limit ≡ found length trials

@@ -2,14 +2,14 @@
 // C, p and delay.
 #![tactic(auto)]
 
-ghost use Rattle.std.specs.Prelude.{◌≡◌, true, ◌≤◌};
-ghost use Rattle.kinds.specs.Ranges.{most_p};
-ghost use Rattle.response.specs.Need.{need as need_of, start as start_of};
+ghost use Rattle.std.specs.Prelude.{◌≡◌, true, ◌*◌, ◌≤◌};
+ghost use Rattle.kinds.specs.Ranges.{most_c, most_p};
+ghost use Rattle.response.specs.Need.{ceil, need as need_of, start as start_of};
 ghost use Rattle.response.specs.Trials.{response as response_of};
 ghost use Rattle.response.specs.Numbers.{rows_in, rows_in_range, Workable};
 ghost use Rattle.response.specs.Alone.{askable_on, alone_on};
 
-use kinds::{Channel, Link};
+use kinds::{Channel, Link, Refusal};
 
 // A row of a link's table: at most `c` packets every `p` slots, each message through within `delay` slots.
 #[derive(Clone, Copy)]
@@ -19,19 +19,11 @@ pub struct Row {
     pub delay: u64,
 }
 
-// What the calculation finds: the response and the number of trials, or no response within the limit and the number
-// of trials.
+// What the calculation finds: the response, where there is one within the limit, and the number of trials.
 #[derive(Clone, Copy)]
-pub enum Answer {
-    Found(u64, u64),
-    Nothing(u64),
-}
-
-// What the call by itself gives back: the answer, or the refusal's number and place.
-#[derive(Clone, Copy)]
-pub enum Reply {
-    Answered(Answer),
-    Refused(u64, u64),
+pub struct Answer {
+    pub response: Option<u64>,
+    pub trials: u64,
 }
 
 // The length at which the trials start: `own` and every C of the table.
@@ -40,12 +32,24 @@ fn start(table: &[u64], own: u64) -> u64
     ensures { result ≡ start_of own (rows_in table.now) }
 {
     let mut length = own;
-    let mut at: usize = 0;
-    while at + 2 < table.len() {
-        length += table[at];
-        at += 3;
+    for row in table.chunks_exact(3) {
+        length += row[0];
     }
     length
+}
+
+// What a row asks for within length `r`: its C times r/p rounded up.
+#[tactic(auto, unfolding(crate::specs::Need::ceil))]
+fn asked(c: u64, p: u64, r: u64) -> u64
+    requires c_le_most_c { c ≤ most_c }
+    requires p_positive { 1 ≤ p }
+    requires p_le_most_p { p ≤ most_p }
+    requires r_le_most_p { r ≤ most_p }
+    ensures { result ≡ c * ceil r p }
+{
+    // both fit 32 bits, where a division is cheaper
+    let times = (r + p - 1) as u32 / p as u32;
+    c * times as u64
 }
 
 // The need at length `r` of a channel with packets `own` below the rows of the table.
@@ -55,13 +59,8 @@ fn need(table: &[u64], own: u64, r: u64) -> u64
     ensures { result ≡ need_of own (rows_in table.now) r }
 {
     let mut sum = own;
-    let mut at: usize = 0;
-    while at + 2 < table.len() {
-        let p = table[at + 1];
-        // both fit 32 bits, where a division is cheaper
-        let times = (r + p - 1) as u32 / p as u32;
-        sum += table[at] * times as u64;
-        at += 3;
+    for row in table.chunks_exact(3) {
+        sum += asked(row[0], row[1], r);
     }
     sum
 }
@@ -79,56 +78,46 @@ pub fn response_under(table: &[u64], own: u64, limit: u64) -> Answer
         let n = need(table, own, r);
         trials += 1;
         if n == r {
-            return Answer::Found(r, trials);
+            return Answer {
+                response: Some(r),
+                trials,
+            };
         }
         r = n;
     }
-    Answer::Nothing(trials)
+    Answer {
+        response: None,
+        trials,
+    }
 }
 
 // Whether every row's C and p are in range.
 fn rows_in_range(table: &[u64]) -> bool
     ensures { result ≡ rows_in_range (rows_in table.now) }
 {
-    let mut at: usize = 0;
-    while at + 2 < table.len() {
-        if !Channel::c_in_range(table[at]) {
-            return false;
-        }
-        if !Channel::p_in_range(table[at + 1]) {
-            return false;
-        }
-        at += 3;
-    }
-    true
+    table.chunks_exact(3).all(|row| Channel::c_in_range(row[0]) && Channel::p_in_range(row[1]))
 }
 
 // Whether the calculation may be asked for: whole rows, not too many, every number in range.
+#[tactic(auto, using(crate::proofs::Laws::Numbers::rows_count))]
 fn is_askable(table: &[u64], own: u64, limit: u64) -> bool
     ensures { result ≡ askable_on table.now own limit }
 {
-    if table.len() % 3 != 0 {
-        return false;
-    }
-    if !Link::rows_fit(table.len() / 3) {
-        return false;
-    }
-    if !Channel::c_in_range(own) {
-        return false;
-    }
-    if !Channel::p_in_range(limit) {
-        return false;
-    }
-    rows_in_range(table)
+    table.len() % 3 == 0
+        && Link::rows_fit(table.len() / 3)
+        && Channel::c_in_range(own)
+        && Channel::p_in_range(limit)
+        && rows_in_range(table)
 }
 
 // The public call: the response-time calculation by itself, on any numbers.
-pub fn response_alone(table: &[u64], own: u64, limit: u64) -> Reply
+#[tactic(auto, using(crate::proofs::Laws::Alone::refused, crate::proofs::Laws::Alone::answered, crate::proofs::Laws::Alone::askable_workable))]
+pub fn response_alone(table: &[u64], own: u64, limit: u64) -> Result<Answer, Refusal>
     ensures { result ≡ alone_on table.now own limit }
 {
     if is_askable(table, own, limit) {
-        Reply::Answered(response_under(table, own, limit))
+        Ok(response_under(table, own, limit))
     } else {
-        Reply::Refused(18, 0)
+        Err(Refusal::BadTable)
     }
 }

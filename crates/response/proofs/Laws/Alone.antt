@@ -8,7 +8,7 @@ use lib.ListN.{length}
 use borrow.Author.Tests.{leb-true}
 use Rattle.kinds.specs.Ranges.{in_range_c, in_range_p, in_range_rows, most_c, most_p, most_rows}
 use Rattle.kinds.proofs.Laws.{within_true}
-use Rattle.response.specs.declared.Reply.TheVariants.{Answered}
+use Rattle.std.specs.declared.result.Result.TheVariants.{Ok}
 use Rattle.response.specs.Trials.{response}
 use Rattle.response.specs.Numbers.{rows_in, whole_rows, Workable}
 use Rattle.response.specs.Alone.{askable, askable_on, refused18, alone, alone_on}
@@ -28,7 +28,7 @@ module _ (t : List ℕ) (own limit : ℕ) where
       go true w = rw (alone_on_lem w, rw w at e, alone)
       go false w = rw (w, alone_on)
 
-  pub answered : askable_on t own limit ≡ true → Answered (response own (rows_in t) limit) ≡ alone_on t own limit
+  pub answered : askable_on t own limit ≡ true → Ok (response own (rows_in t) limit) ≡ alone_on t own limit
   unfolding alone
   answered e =
       let w = (and-eq-true_iff (whole_rows t) (askable (rows_in t) own limit)).0 e in

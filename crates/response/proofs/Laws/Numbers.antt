@@ -1,14 +1,22 @@
--- A table as numbers, read from the front: what is left from place `at` on is a row and then what is left from at + 3
--- on, or nothing. The loops over a table carry a fact about what is left.
-use Prim.Native.Nat.{ℕ, suc, ◌+◌, ◌*◌, ◌/◌, ◌≤◌, ◌<◌}
-use mathlib.Core.Path.{◌≡◌, refl, ap, ◌∙◌}
-use mathlib.Core.List.{List, [], ◌∷◌}
-use mathlib.Core.Bool.{true, false, ◌&&◌, and-eq-true_iff}
+-- A table as numbers, read from the front: what is left is a row and then what is left behind it, or nothing. The loops over a
+-- table carry a fact about what is left.
+use Prim.Native.Nat.{ℕ, ◌+◌, ◌*◌, ◌/◌, ◌≤◌, ◌<◌}
+use mathlib.Core.Path.{◌≡◌, refl, sym, ap, ◌∙◌}
+use mathlib.Core.List.{List, [], ◌∷◌, ◌++◌}
+use mathlib.Core.Bool.{Bool, true, false, and-eq-true_iff}
 use native.Mathlib.Nat.{le_trans, mul-le-mul}
 use native.Mathlib.Omega.{arith}
-use native.Mathlib.Numerals.{add-one, add-two, add-three}
-use lib.ListN.{length, get_or, drop, length-drop}
-use lib.Seq.{drop-cons}
+use lib.ListN.{length, get_or, length-append}
+use denote.Param.Members.{Mut}
+use denote.Ref.{Bor}
+use Rattle.std.specs.declared.option.Option.{Option}
+use Rattle.std.specs.declared.option.Option.TheVariants.{None, Some}
+use Rattle.std.specs.declared.slice.ChunksExact.{ChunksExact}
+use Rattle.std.specs.Slice.Iter.{chunks_exact_rest, chunks_exact_size, chunks_exact_steps}
+use Rattle.std.specs.Iterator.{YieldsThen}
+use Rattle.std.specs.Fn.{Called}
+use Rattle.std.specs.List.{FoldsTo}
+use Rattle.std.specs.Option.{MatchOption}
 use Rattle.kinds.specs.Ranges.{in_range_c, in_range_p, most_c, most_p}
 use Rattle.kinds.proofs.Laws.{within_true}
 use Rattle.response.specs.declared.Row.{Row}
@@ -20,27 +28,22 @@ use Rattle.response.proofs.Laws.Need.{ceil_self}
 abbrev pub row_at : List ℕ → ℕ → Row
 row_at t at = record { c = get_or t at 0; p = get_or t (at + 1) 0; delay = get_or t (at + 2) 0 }
 
--- the rows from place `at` on
-abbrev pub rest : List ℕ → ℕ → List Row
-rest t at = rows_in (drop at t)
-
-pub rest_row : (t : List ℕ) (at : ℕ) → at + 2 < length t → rest t at ≡ row_at t at ∷ rest t (at + 3)
+-- what is left of a table is its first three numbers, a row, and then the rows behind them
+pub rows_front : (t x rest : List ℕ) → t ≡ x ++ rest → length x ≡ 3 → rows_in t ≡ row_at x 0 ∷ rows_in rest
 unfolding rows_in
-rest_row t at h =
-    let a : at < length t = omega arith in
-    let b : suc at < length t = omega arith in
-    let d : suc (suc at) < length t = omega arith in
-    rw (add-one at, add-two at, add-three at, drop-cons t at 0 a, drop-cons t (suc at) 0 b, drop-cons t (suc (suc at)) 0 d)
+rows_front t [] rest e h = absurd (omega arith)
+rows_front t (c ∷ []) rest e h = absurd (omega arith)
+rows_front t (c ∷ (p ∷ [])) rest e h = absurd (omega arith)
+rows_front t (c ∷ (p ∷ (delay ∷ []))) rest e h = rw e
+rows_front t (c ∷ (p ∷ (delay ∷ (a ∷ x)))) rest e h = absurd (omega arith)
 
-short_none : (t : List ℕ) → length t ≤ 2 → rows_in t ≡ []
+-- fewer than three numbers are no row
+pub rows_none : (t : List ℕ) → length t < 3 → rows_in t ≡ []
 unfolding rows_in
-short_none [] h = refl
-short_none (c ∷ []) h = refl
-short_none (c ∷ (p ∷ [])) h = refl
-short_none (c ∷ (p ∷ (delay ∷ t))) h = absurd (omega arith)
-
-pub rest_none : (t : List ℕ) (at : ℕ) → length t ≤ at + 2 → rest t at ≡ []
-rest_none t at h = short_none (drop at t) (simp length-drop (omega arith))
+rows_none [] h = refl
+rows_none (c ∷ []) h = refl
+rows_none (c ∷ (p ∷ [])) h = refl
+rows_none (c ∷ (p ∷ (delay ∷ t))) h = absurd (omega arith)
 
 -- three numbers a row
 pub rows_count : (t : List ℕ) → length (rows_in t) ≡ length t / 3
@@ -63,14 +66,6 @@ bounds x e =
     let hp = within_true 1 most_p x.p h.1 in
     record { c_most = hc.1; p_least = hp.0; p_most = hp.1 }
 
--- where all rows left are in range, so is the first of them, and so are the others
-pub rest_ranged : (t : List ℕ) (at : ℕ) → at + 2 < length t → rows_in_range (rest t at) ≡ true
-    → Bounds (row_at t at) × (rows_in_range (rest t (at + 3)) ≡ true)
-unfolding rows_in_range
-rest_ranged t at h e =
-    let b = (and-eq-true_iff (row_in_range (row_at t at)) (rows_in_range (rest t (at + 3)))).0 (rw (rest_row t at h) at e) in
-    (bounds (row_at t at) b.0, b.1)
-
 -- what a row in range asks for within a length of at most the largest p
 pub asked_most : (x : Row) (r : ℕ) → Bounds x → r ≤ most_p → x.c * ceil r x.p ≤ most_c * most_p
 asked_most x r b h = mul-le-mul b.c_most (le_trans (ceil_self r x.p b.p_least) h)
@@ -83,56 +78,65 @@ ranged_spaced (x ∷ rows) e =
     let b = (and-eq-true_iff (row_in_range x) (rows_in_range rows)).0 e in
     ((bounds x b.0).p_least, ranged_spaced rows b.1)
 
--- A loop that looks at each row: what is left decides.
-pub record Looking (t : List ℕ) (at : ℕ) : Type 0 where
-  pub place : at ≤ length t
-  pub same : rows_in_range (rows_in t) ≡ rows_in_range (rest t at)
-
--- what the first row left comes to: the test of its C, then that of its p, then what is left after it
-pub looking_at : (t : List ℕ) (at : ℕ) → Looking t at → at + 2 < length t
-    → rows_in_range (rows_in t) ≡ (row_in_range (row_at t at) && rows_in_range (rest t (at + 3)))
-unfolding rows_in_range
-looking_at t at l h = l.same ∙ ap rows_in_range (rest_row t at h)
-
-pub looking_bad_c : (t : List ℕ) (at : ℕ) → Looking t at → at + 2 < length t → in_range_c (get_or t at 0) ≡ false
-    → false ≡ rows_in_range (rows_in t)
-looking_bad_c t at l h c = rw (looking_at t at l h, c)
-
-pub looking_bad_p : (t : List ℕ) (at : ℕ) → Looking t at → at + 2 < length t → in_range_c (get_or t at 0) ≡ true
-    → in_range_p (get_or t (at + 1) 0) ≡ false → false ≡ rows_in_range (rows_in t)
-looking_bad_p t at l h c p = rw (looking_at t at l h, c, p)
-
-pub looking_more : (t : List ℕ) (at : ℕ) → Looking t at → at + 2 < length t → in_range_c (get_or t at 0) ≡ true
-    → in_range_p (get_or t (at + 1) 0) ≡ true → Looking t (at + 3)
-looking_more t at l h c p = record { place = omega arith; same = rw (looking_at t at l h, c, p) }
-
-pub looking_done : (t : List ℕ) (at : ℕ) → Looking t at → length t ≤ at + 2 → rows_in_range (rows_in t) ≡ true
-unfolding rows_in_range
-looking_done t at l h = l.same ∙ ap rows_in_range (rest_none t at h)
-
 -- A loop that adds a number for each row: with `total` the sum over a list of rows, what is summed so far and what the
 -- rows left will add are the whole. `most` bounds what one row adds.
-pub record Adding (total : List Row → ℕ) (most : ℕ) (t : List ℕ) (own sum at : ℕ) : Type 0 where
-  pub place : at ≤ length t
-  pub whole : sum + total (rest t at) ≡ own + total (rows_in t)
-  pub bound : sum ≤ roomy + most * at
-  pub ranged : rows_in_range (rest t at) ≡ true
+pub record Adding (total : List Row → ℕ) (most : ℕ) (t : List ℕ) (own sum : ℕ) (rest : List ℕ) : Type 0 where
+  pub whole : sum + total (rows_in rest) ≡ own + total (rows_in t)
+  pub bound : sum + most * length rest ≤ roomy + most * length t
+  pub ranged : rows_in_range (rows_in rest) ≡ true
 
-module _ (total : List Row → ℕ) (most : ℕ) (t : List ℕ) (own : ℕ) where
-  pub adding_none : Workable t own → Adding total most t own own 0
-  adding_none w =
-      record { place = omega arith; whole = refl; bound = omega (arith, w.small); ranged = w.ranged }
+module _ {total : List Row → ℕ} {most : ℕ} {t : List ℕ} {own : ℕ} where
+  pub adding_none : Workable t own → Adding total most t own own t
+  adding_none w = record { whole = refl; bound = omega (arith, w.small); ranged = w.ranged }
 
-  pub adding_more : (sum at n : ℕ) → Adding total most t own sum at → at + 2 < length t → n ≤ most
-      → total (row_at t at ∷ rest t (at + 3)) ≡ n + total (rest t (at + 3)) → Adding total most t own (sum + n) (at + 3)
-  adding_more sum at n a h b e =
-      record {
-        place = omega arith;
-        whole = omega (arith, a.whole, ap total (rest_row t at h), e);
-        bound = omega (arith, a.bound);
-        ranged = (rest_ranged t at h a.ranged).1;
-      }
+  module _ {sum : ℕ} {s : List ℕ} (a : Adding total most t own sum s) where
+    module _ (x rest : List ℕ) (e : s ≡ x ++ rest) (h : length x ≡ 3) where
+      next : (row_in_range (row_at x 0) ≡ true) × (rows_in_range (rows_in rest) ≡ true)
+      unfolding rows_in_range
+      next = (and-eq-true_iff (row_in_range (row_at x 0)) (rows_in_range (rows_in rest))).0 (rw (rows_front s x rest e h) at a.ranged)
 
-  pub adding_done : (sum at : ℕ) → Adding total most t own sum at → length t ≤ at + 2 → total [] ≡ 0
-      → sum ≡ own + total (rows_in t)
-  adding_done sum at a h e = omega (arith, a.whole, ap total (rest_none t at h), e)
+      -- the row that comes next is in range
+      pub adding_row : Bounds (row_at x 0)
+      adding_row = bounds (row_at x 0) next.0
+
+      pub adding_more : (n : ℕ) → n ≤ most → total (row_at x 0 ∷ rows_in rest) ≡ n + total (rows_in rest)
+          → Adding total most t own (sum + n) rest
+      adding_more n b k =
+          let l : length s ≡ 3 + length rest = rw (e, length-append x rest, h) in
+          record {
+            whole = omega (arith, a.whole, ap total (rows_front s x rest e h), k);
+            bound = omega (arith, a.bound, ap (λ i. most * i) l);
+            ranged = next.1;
+          }
+
+    pub adding_done : length s < 3 → total [] ≡ 0 → sum ≡ own + total (rows_in t)
+    adding_done h e = omega (arith, a.whole, ap total (rows_none s h), e)
+
+-- `all` over the rows of a table, where the closure works out whether a row is in range
+module _ {F : Type 0} {g : Mut F (Bor (List ℕ) × Unit {0}) Bool} (u : ChunksExact ℕ) (h : F) (r : Bool)
+    (called : (x : Bor (List ℕ)) (b : Bool) (q : F) → Called g h (x, tt) b q → (q ≡ h) × (b ≡ row_in_range (row_at x.now 0))) where
+  pub ranged_from_all : (s : ChunksExact ℕ)
+      → (xs : List (Bor (List ℕ))) × (o : Option (Bor (List ℕ))) × (j : F) × YieldsThen chunks_exact_steps s xs o u
+      × FoldsTo (λ p x q. Called g p (x, tt) true q) h xs j
+      × MatchOption o (r ≡ true) (λ x. (r ≡ false) × ((e : F) × Called g j (x, tt) false e))
+      → chunks_exact_size s ≡ 3 → r ≡ rows_in_range (rows_in (chunks_exact_rest s))
+  unfolding rows_in_range
+  ranged_from_all s (xs, o, j, y, f, m) size = go xs s o j y f m size
+    where
+      go : (xs : List (Bor (List ℕ))) (s : ChunksExact ℕ) (o : Option (Bor (List ℕ))) (j : F) → YieldsThen chunks_exact_steps s xs o u
+          → FoldsTo (λ p x q. Called g p (x, tt) true q) h xs j
+          → MatchOption o (r ≡ true) (λ x. (r ≡ false) × ((e : F) × Called g j (x, tt) false e))
+          → chunks_exact_size s ≡ 3 → r ≡ rows_in_range (rows_in (chunks_exact_rest s))
+      go [] s None j (t, i, st) f m size =
+          let three : chunks_exact_size t ≡ 3 = ap chunks_exact_size (sym i) ∙ size in
+          let short : length (chunks_exact_rest s) < 3 = omega (arith, ap (λ z. length (chunks_exact_rest z)) i, st.1.0, three) in
+          rw (rows_none (chunks_exact_rest s) short) m
+      go [] s (Some x) j (t, i, st) f m size =
+          let first = rows_front (chunks_exact_rest s) x.now (chunks_exact_rest u) (ap chunks_exact_rest i ∙ st.1.0)
+          (st.1.1 ∙ ap chunks_exact_size (sym i) ∙ size) in
+          let out : row_in_range (row_at x.now 0) ≡ false = sym (called x false m.1.0 (rw f m.1.1)).1 in
+          rw (first, out) m.0
+      go (x ∷ xs) s o j (t, (k, st, y), last) (q, f, more) m size =
+          let first = rows_front (chunks_exact_rest s) x.now (chunks_exact_rest k) st.1.0 (st.1.1 ∙ size) in
+          let in_range : row_in_range (row_at x.now 0) ≡ true = sym (called x true q f).1 in
+          rw (first, in_range) (go xs k o j (t, y, last) (rw (sym (called x true q f).0) more) m (st.0 ∙ size))

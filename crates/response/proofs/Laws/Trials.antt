@@ -9,20 +9,29 @@ use native.Mathlib.Decide.{dec_le, ℕ_discrete}
 use native.Mathlib.Omega.{arith}
 use borrow.Author.Tests.{lt-ltb, le-ltb, eq-eqb, ne_eqb}
 use borrow.Author.Count.{below_none, below_more}
+use Rattle.std.specs.declared.option.Option.{Option}
+use Rattle.std.specs.declared.option.Option.TheVariants.{None, Some}
 use Rattle.response.specs.declared.Row.{Row}
 use Rattle.response.specs.declared.Answer.{Answer}
-use Rattle.response.specs.declared.Answer.TheVariants.{Found, Nothing}
 use Rattle.response.specs.Need.{need, start, Spaced}
-use Rattle.response.specs.Trials.{length_after, tried, response}
+use Rattle.response.specs.Trials.{found, nothing, length_after, tried, response}
 use Rattle.response.specs.Right.{Least, NoneWithin, Right, HasResponse}
 use Rattle.response.proofs.Laws.Need.{need_mono, start_need, own_start}
 
+-- an answer with a response, or without one
+module _ (a : Answer) where
+  pub found_is : (r : ℕ) → a.response ≡ Some r → a ≡ found r a.trials
+  found_is r e = ap (λ (o : Option ℕ). record { response = o; trials = a.trials }) e
+
+  pub nothing_is : a.response ≡ None → a ≡ nothing a.trials
+  nothing_is e = ap (λ (o : Option ℕ). record { response = o; trials = a.trials }) e
+
 -- The three ways on from length r after k trials.
-pub tried_passed : (f : ℕ → ℕ) (limit left r k : ℕ) → limit < r → tried f limit (suc left) r k ≡ Nothing k
+pub tried_passed : (f : ℕ → ℕ) (limit left r k : ℕ) → limit < r → tried f limit (suc left) r k ≡ nothing k
 unfolding tried
 tried_passed f limit left r k h = rw (lt-ltb limit r h, tried)
 
-pub tried_equal : (f : ℕ → ℕ) (limit left r k : ℕ) → r ≤ limit → f r ≡ r → tried f limit (suc left) r k ≡ Found r (suc k)
+pub tried_equal : (f : ℕ → ℕ) (limit left r k : ℕ) → r ≤ limit → f r ≡ r → tried f limit (suc left) r k ≡ found r (suc k)
 unfolding tried
 tried_equal f limit left r k h e = rw (le-ltb limit r h, eq-eqb (f r) r e, tried)
 
@@ -65,9 +74,9 @@ module _ (f : ℕ → ℕ) (mono : (a b : ℕ) → a ≤ b → f a ≤ f b) (lim
         unequal = upto (λ i. f (length_after f s i) ≢ length_after f s i) k a.unequal (rw a.here ne);
       }
 
-  found : (left r k : ℕ) → At (suc left) r k → r ≤ limit → f r ≡ r → Right f limit s (Found r (suc k))
+  found_right : (left r k : ℕ) → At (suc left) r k → r ≤ limit → f r ≡ r → Right f limit s (found r (suc k))
   unfolding length_after
-  found left r k a h e = (
+  found_right left r k a h e = (
     record { positive = a.positive; within = h; enough = omega (arith, e); least = λ x px _ hx. a.below x px hx },
     record {
       inside = upto (λ i. length_after f s i ≤ limit) k a.inside (rw a.here h);
@@ -78,8 +87,8 @@ module _ (f : ℕ → ℕ) (mono : (a b : ℕ) → a ≤ b → f a ≤ f b) (lim
     record { before = k; last = refl; reached = a.here; kept = rw a.here e },
   )
 
-  nothing : (left r k : ℕ) → At left r k → limit < r → Right f limit s (Nothing k)
-  nothing left r k a l = (
+  nothing_right : (left r k : ℕ) → At left r k → limit < r → Right f limit s (nothing k)
+  nothing_right left r k a l = (
     λ x px lx hx. omega (arith, a.below x px hx),
     record {
       inside = a.inside;
@@ -92,13 +101,13 @@ module _ (f : ℕ → ℕ) (mono : (a b : ℕ) → a ≤ b → f a ≤ f b) (lim
 
   tried_right : (left r k : ℕ) → At left r k → Right f limit s (tried f limit left r k)
   unfolding tried
-  tried_right zero r k a = nothing zero r k a (omega (arith, a.enough))
+  tried_right zero r k a = nothing_right zero r k a (omega (arith, a.enough))
   tried_right (suc left) r k a = go (dec_le r limit) (ℕ_discrete (f r) r) (tried_right left (f r) (suc k))
     where
       go : Dec (r ≤ limit) → Dec (f r ≡ r) → (At left (f r) (suc k) → Right f limit s (tried f limit left (f r) (suc k)))
           → Right f limit s (tried f limit (suc left) r k)
-      go (no h) e later = rw (tried_passed f limit left r k (omega (arith, h))) (nothing (suc left) r k a (omega (arith, h)))
-      go (yes h) (yes e) later = rw (tried_equal f limit left r k h e) (found left r k a h e)
+      go (no h) e later = rw (tried_passed f limit left r k (omega (arith, h))) (nothing_right (suc left) r k a (omega (arith, h)))
+      go (yes h) (yes e) later = rw (tried_equal f limit left r k h e) (found_right left r k a h e)
       go (yes h) (no e) later = rw (tried_on f limit left r k h e) (later (more left r k a h e))
 
 -- The answer is right where the channel has a packet and every p is at least 1.
@@ -127,18 +136,21 @@ module _ (own : ℕ) (above : List Row) (limit : ℕ) (pos : 1 ≤ own) (sp : Sp
   right_of : (a : Answer) → response own above limit ≡ a → Right (need own above) limit (start own above) a
   right_of a e = subst (Right (need own above) limit (start own above)) e (response_right own above limit pos sp)
 
-  pub found_least : (r k : ℕ) → response own above limit ≡ Found r k → Least (need own above) limit r
-  found_least r k e = (right_of (Found r k) e).0
+  pub found_least : (r k : ℕ) → response own above limit ≡ found r k → Least (need own above) limit r
+  found_least r k e = (right_of (found r k) e).0
 
-  pub nothing_none : (k : ℕ) → response own above limit ≡ Nothing k → NoneWithin (need own above) limit
-  nothing_none k e = (right_of (Nothing k) e).0
+  pub nothing_none : (k : ℕ) → response own above limit ≡ nothing k → NoneWithin (need own above) limit
+  nothing_none k e = (right_of (nothing k) e).0
 
   pub enough_found : (x : ℕ) → 1 ≤ x → x ≤ limit → need own above x ≤ x → HasResponse own above limit
-  enough_found x px lx hx = go (response own above limit) refl
+  enough_found x px lx hx = go a.response refl
     where
-      go : (a : Answer) → response own above limit ≡ a → HasResponse own above limit
-      go (Found r k) e = record { length = r; trials = k; found = e }
-      go (Nothing k) e = absurd (nothing_none k e x px lx hx)
+      a : Answer
+      a = response own above limit
+
+      go : (o : Option ℕ) → a.response ≡ o → HasResponse own above limit
+      go (Some r) e = record { length = r; trials = a.trials; found = found_is a r e }
+      go None e = absurd (nothing_none a.trials (nothing_is a e) x px lx hx)
 
 -- The loop over the trials: at length r after k trials the answer is what is left to try from there. `n` is the need
 -- at r, as the loop has worked it out.
@@ -165,13 +177,10 @@ module _ (f : ℕ → ℕ) (limit s : ℕ) where
       go (suc left) q l = (left, q, l)
 
   pub trying_equal : (r k n : ℕ) → Trying f limit s r k → r ≤ limit → n ≡ f r → n ≡ r
-      → Found r (k + 1) ≡ tried f limit (suc limit) s 0
+      → found r (k + 1) ≡ tried f limit (suc limit) s 0
   trying_equal r k n t h q e =
       let (left, same, enough) = more_left r k t h in
       rw (add-one k, same, tried_equal f limit left r k h (sym q ∙ e))
-
-  pub trying_less : (r k n : ℕ) → Trying f limit s r k → r ≤ limit → n ≡ f r → n ≢ r → suc limit - n < suc limit - r
-  trying_less r k n t h q e = omega (arith, t.rising, e)
 
   pub trying_on : ((a b : ℕ) → a ≤ b → f a ≤ f b) → (r k n : ℕ) → Trying f limit s r k → r ≤ limit → n ≡ f r → n ≢ r
       → Trying f limit s n (k + 1)
@@ -186,10 +195,10 @@ module _ (f : ℕ → ℕ) (limit s : ℕ) where
         spent = omega (arith, t.spent, t.rising, e);
       }
 
-  pub trying_passed : (r k : ℕ) → Trying f limit s r k → limit < r → Nothing k ≡ tried f limit (suc limit) s 0
+  pub trying_passed : (r k : ℕ) → Trying f limit s r k → limit < r → nothing k ≡ tried f limit (suc limit) s 0
   unfolding tried
   trying_passed r k t h = go t.left t.same
     where
-      go : (left : ℕ) → tried f limit (suc limit) s 0 ≡ tried f limit left r k → Nothing k ≡ tried f limit (suc limit) s 0
+      go : (left : ℕ) → tried f limit (suc limit) s 0 ≡ tried f limit left r k → nothing k ≡ tried f limit (suc limit) s 0
       go zero q = sym q
       go (suc left) q = sym (q ∙ tried_passed f limit left r k h)
