@@ -20,6 +20,10 @@ unfoldable pub filled : List Row → ℕ → List ℕ
 filled rows zero = replicate 96 0
 filled rows (suc i) = with_row (filled rows i) i (get_or rows i zero_row)
 
+pub filled_none : (rows : List Row) → filled rows 0 ≡ replicate 96 0
+unfolding filled
+filled_none rows = refl
+
 -- a turn counts with `i + 1`
 pub filled_more : (rows : List Row) (i : ℕ) → filled rows (i + 1) ≡ with_row (filled rows i) i (get_or rows i zero_row)
 unfolding filled
@@ -68,10 +72,10 @@ filled_first rows (suc i) l few =
     ∙ behind xs zero_row (zeros (suc i)) x ∙ ap (λ (t : List Row). numbers_of t ++ zeros (suc i)) (sym (take-suc rows i zero_row l))
 
 -- the loop's end
-pub filled_all : (rows : List Row) → length rows ≤ 32 → filled rows (length rows) ≡ filled_of rows
+pub filled_all : (rows : List Row) (i : ℕ) → i ≡ length rows → length rows ≤ 32 → filled rows i ≡ filled_of rows
 unfolding filled_of
-filled_all rows few =
-    filled_first rows (length rows) (le_refl (length rows)) few
+filled_all rows i end few =
+    ap (filled rows) end ∙ filled_first rows (length rows) (le_refl (length rows)) few
     ∙ ap (λ (t : List Row). numbers_of t ++ zeros (length rows)) (take-length rows)
 
 -- ---- the numbers are read back as the rows

@@ -1,10 +1,7 @@
 -- the rows before row i are in the numbers
-use Rattle.std.proofs.Common.{length, ◌-◌, ◌≡◌, ◌≤◌}
+use Rattle.std.proofs.Common.{◌≡◌}
 use Rattle.response_table.proofs.Numbers.{filled}
 use Rattle.response_table.proofs.numbers_of.Given as goal
 
 abbrev pub invariant-loop-i : goal.invariant-loop-i
-invariant-loop-i l = (l.numbers ≡ filled l.rows l.i) × (l.i ≤ length l.rows)
-
-abbrev pub decreases-loop-i : goal.decreases-loop-i
-decreases-loop-i l = length l.rows - l.i
+invariant-loop-i l = l.numbers ≡ filled l.rows l.i
