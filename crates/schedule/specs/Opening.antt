@@ -1,8 +1,7 @@
 -- Document 01, "Opening", on one link: where the new channel's response is worked out, and where its row goes.
 use Rattle.std.specs.Prelude.{ℕ, ◌≤◌, ◌≡◌, List, ◌∷◌, ◌++◌, length, take}
 use Rattle.response.specs.declared.Row.{Row}
-use Rattle.response.specs.declared.Answer.TheVariants.{Found}
-use Rattle.response.specs.Trials.{response}
+use Rattle.response.specs.Trials.{found, response}
 use Rattle.response.specs.Right.{HasResponse}
 use Rattle.schedule.specs.Lists.{Every}
 
@@ -26,7 +25,7 @@ pub record Opening (rows : List Row) (new : Row) : Type 0 where
   pub smallest : Smallest new rows q
   pub r : ℕ
   pub trials : ℕ
-  pub found : response new.c (take q rows) new.p ≡ Found r trials
+  pub found : response new.c (take q rows) new.p ≡ found r trials
   pub d : ℕ
   pub covers : r ≤ d
   pub within : d ≤ new.p
