@@ -1,9 +1,9 @@
 -- Document 01, "Opening", steps 1 to 3: on one link, where the new channel goes and what its response is there. c and p are
 -- those of the new channel.
 use Rattle.std.specs.Prelude.{ℕ, zero, suc, Bool, true, false, List, [], ◌∷◌, ◌++◌}
+use Rattle.std.specs.Option.{is_some, unwrap_or}
 use Rattle.response.specs.declared.Row.{Row}
 use Rattle.response.specs.declared.Answer.{Answer}
-use Rattle.response.specs.declared.Answer.TheVariants.{Found, Nothing}
 use Rattle.response.specs.Trials.{response}
 use Rattle.store.specs.Layout.{Store, c_of, p_of, rows_of, row_channel_of}
 use Rattle.store.specs.Sound.{row_delay_of}
@@ -29,8 +29,7 @@ abbrev pub old_response : Store → (c p l k : ℕ) → Answer
 old_response w c p l k = response (row_at w l k).c (new_row c p ∷ rows_to w l k) (row_at w l k).delay
 
 abbrev pub is_found : Answer → Bool
-is_found (Found r trials) = true
-is_found (Nothing trials) = false
+is_found a = is_some a.response
 
 abbrev pub has_response : Store → (c p l k : ℕ) → Bool
 has_response w c p l k = is_found (old_response w c p l k)
@@ -54,8 +53,7 @@ abbrev pub responds : Store → (c p : ℕ) → (route : ℕ → ℕ) → (j : �
 responds w c p route j = is_found (new_response w c p (route j))
 
 abbrev pub length_of : Answer → ℕ
-length_of (Found r trials) = r
-length_of (Nothing trials) = 0
+length_of a = unwrap_or a.response 0
 
 abbrev pub responses : Store → (c p : ℕ) → (route : ℕ → ℕ) → (j : ℕ) → ℕ
 responses w c p route j = length_of (new_response w c p (route j))

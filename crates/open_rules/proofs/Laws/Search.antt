@@ -6,11 +6,14 @@ use mathlib.Core.List.{List, [], ◌∷◌}
 use native.Mathlib.Omega.{arith}
 use lib.ListN.{length, take, length-append}
 use lib.Seq.{take_all, take-append-le}
+use Rattle.std.specs.declared.option.Option.{Option}
+use Rattle.std.specs.declared.option.Option.TheVariants.{None, Some}
+use Rattle.std.specs.Option.{is_some}
 use Rattle.response.specs.declared.Row.{Row}
 use Rattle.response.specs.declared.Answer.{Answer}
-use Rattle.response.specs.declared.Answer.TheVariants.{Found, Nothing}
 use Rattle.response.specs.Trials.{response}
 use Rattle.response.specs.Right.{HasResponse}
+use Rattle.response.proofs.Laws.Trials.{found_is}
 use Rattle.store.specs.Layout.{Store}
 use Rattle.folds.proofs.Folds.{below}
 use Rattle.open_rules.specs.Search.{row_at, rows_to, is_found, smallest}
@@ -110,11 +113,14 @@ module _ (w : Store) (l : ℕ) where
 
 -- a response that is found, as a test and as a fact
 pub found_response : (own limit : ℕ) (above : List Row) → is_found (response own above limit) ≡ true → HasResponse own above limit
-found_response own limit above e = go (response own above limit) refl e
+found_response own limit above e = go a.response refl e
   where
-    go : (a : Answer) → response own above limit ≡ a → is_found a ≡ true → HasResponse own above limit
-    go (Found r trials) h f = record { length = r; trials = trials; found = h }
-    go (Nothing trials) h f = absurd (let z : ◌≡◌ {A = ℕ} 0 1 = cc f in omega arith)
+    a : Answer
+    a = response own above limit
+
+    go : (o : Option ℕ) → a.response ≡ o → is_some o ≡ true → HasResponse own above limit
+    go (Some r) h f = record { length = r; trials = a.trials; found = found_is a r h }
+    go None h f = absurd (let z : ◌≡◌ {A = ℕ} 0 1 = cc f in omega arith)
 
 pub response_found : (own limit : ℕ) (above : List Row) → HasResponse own above limit → is_found (response own above limit) ≡ true
 response_found own limit above h = rw h.found
