@@ -1,12 +1,15 @@
 -- Long waits: how many slots from now no link can send in, and the clock moved on over them.
 use Rattle.std.specs.Prelude.{ℕ, ◌+◌, ◌-◌, min, Bool, List, [], ◌∷◌, eqb, ltb}
+use Rattle.std.specs.declared.result.Result.{Result}
+use Rattle.std.specs.declared.result.Result.TheVariants.{Ok, Err}
 use Rattle.kinds.specs.Ranges.{end_slot}
+use Rattle.kinds.specs.Refusals.{number_of, place_of}
+use Rattle.kinds.specs.declared.Refusal.{Refusal}
+use Rattle.kinds.specs.declared.Refusal.TheVariants.{EndSlot, NotSound}
 use Rattle.store.specs.Layout.{Store, links_of, clock_of, with_clock}
 use Rattle.folds.specs.Folds.{every, first_not}
 use Rattle.store.specs.Sound.{sound_of}
 use Rattle.checks.specs.Checks.{Check, check, first_failed}
-use Rattle.slot_rules.specs.declared.Waited.{Waited}
-use Rattle.slot_rules.specs.declared.Waited.TheVariants.{Slots, Refused}
 use Rattle.slot_rules.specs.Pick.{pick_of}
 
 -- link l sends nothing in the present slot
@@ -25,20 +28,21 @@ idle_of w = first_not (quiet w) (end_slot - clock_of w)
 abbrev pub skipped : Store → (n : ℕ) → ℕ
 skipped w n = min n (idle_of w)
 
--- Document 01's first two checks of a slot: where they fail no slot runs, and there is none to wait for.
+-- Document 01's first two checks of a slot, 17 and 14: where they fail no slot runs, and there is none to wait for.
 abbrev pub wait_checks : Store → List Check
-wait_checks w = check 17 (sound_of w) ∷ (check 14 (ltb (clock_of w) end_slot) ∷ [])
+wait_checks w = check NotSound (sound_of w) ∷ (check EndSlot (ltb (clock_of w) end_slot) ∷ [])
 
-unfoldable pub idle_answer : Store → Waited
-idle_answer w = first_failed Refused (wait_checks w) (Slots (idle_of w))
+-- so many slots
+unfoldable pub idle_answer : Store → Result ℕ Refusal
+idle_answer w = first_failed Err (wait_checks w) (Ok (idle_of w))
 
-unfoldable pub skip_answer : Store → (n : ℕ) → Waited
-skip_answer w n = first_failed Refused (wait_checks w) (Slots (skipped w n))
+unfoldable pub skip_answer : Store → (n : ℕ) → Result ℕ Refusal
+skip_answer w n = first_failed Err (wait_checks w) (Ok (skipped w n))
 
 -- "Nothing stored changes" on a refusal
-abbrev pub store_on : Waited → Store → Store
-store_on (Slots slots) w = with_clock w (clock_of w + slots)
-store_on (Refused number place) w = w
+abbrev pub store_on : Result ℕ Refusal → Store → Store
+store_on (Ok slots) w = with_clock w (clock_of w + slots)
+store_on (Err refusal) w = w
 
 unfoldable pub skip_store : Store → (n : ℕ) → Store
 skip_store w n = store_on (skip_answer w n) w
@@ -50,6 +54,6 @@ pub record Values : Type 0 where
   pub place : ℕ
   pub slots : ℕ
 
-abbrev pub values_of : Waited → (slots : ℕ) → Values
-values_of (Slots n) slots = record { number = 0; place = 0; slots = n }
-values_of (Refused number place) slots = record { number = number; place = place; slots = slots }
+abbrev pub values_of : Result ℕ Refusal → (slots : ℕ) → Values
+values_of (Ok n) slots = record { number = 0; place = 0; slots = n }
+values_of (Err refusal) slots = record { number = number_of refusal; place = place_of refusal; slots = slots }

@@ -2,6 +2,8 @@
 -- row of the link stands for the packet of its channel that goes next. A pick is the position of a row, counted from 1, or 0 for
 -- none.
 use Rattle.std.specs.Prelude.{ℕ, zero, suc, ◌+◌, Bool, true, false, ◌&&◌, ◌||◌, not, eqb, leb, ltb}
+use Rattle.std.specs.declared.option.Option.{Option}
+use Rattle.std.specs.declared.option.Option.TheVariants.{None, Some}
 use Rattle.store.specs.Layout.{Store, clock_of, horizon_of, rows_of, row_channel_of, row_place_of}
 use Rattle.slot_rules.specs.Head.{logical_of, deadline_of, is_held, is_current}
 
@@ -56,3 +58,8 @@ pick_from w l (suc k) soon = suc k
 
 unfoldable pub pick_of : Store → (l : ℕ) → ℕ
 pick_of w l = pick_from w l (due_of w l) (soon_of w l)
+
+-- a position as code has it: the row, if there is one
+abbrev pub row_of : (position : ℕ) → Option ℕ
+row_of zero = None
+row_of (suc k) = Some k

@@ -1,11 +1,14 @@
 -- Document 01, "A slot": "All links pick, then all picked packets move on, then the clock rises by one."
 use Rattle.std.specs.Prelude.{ℕ, zero, suc, ◌+◌, ◌-◌, ◌*◌, List, [], ◌∷◌, ◌++◌, leb, ltb, length, drop}
+use Rattle.std.specs.declared.result.Result.{Result}
+use Rattle.std.specs.declared.result.Result.TheVariants.{Ok, Err}
 use Rattle.kinds.specs.Ranges.{end_slot}
+use Rattle.kinds.specs.Refusals.{number_of, place_of}
+use Rattle.kinds.specs.declared.Refusal.{Refusal}
+use Rattle.kinds.specs.declared.Refusal.TheVariants.{EndSlot, OutShort, NotSound}
 use Rattle.store.specs.Layout.{Store, links_of, clock_of, row_channel_of, row_place_of, sent_of, with_sent, with_clock}
 use Rattle.store.specs.Sound.{sound_of}
 use Rattle.checks.specs.Checks.{Check, check, first_failed}
-use Rattle.slot_rules.specs.declared.Turn.{Turn}
-use Rattle.slot_rules.specs.declared.Turn.TheVariants.{Ran, Refused}
 use Rattle.slot_rules.specs.Head.{message_of, packet_of}
 use Rattle.slot_rules.specs.Pick.{pick_of}
 
@@ -57,32 +60,33 @@ moved w = with_clock (moved_to w (links_of w)) (clock_of w + 1)
 -- once more "after all other checks". `size` is the length of the output.
 abbrev pub slot_checks : Store → (size : ℕ) → List Check
 slot_checks w size =
-    check 17 (sound_of w)
-    ∷ (check 14 (ltb (clock_of w) end_slot)
-    ∷ (check 15 (leb (5 * links_of w) size)
-    ∷ (check 17 (sound_of (moved w))
+    check NotSound (sound_of w)
+    ∷ (check EndSlot (ltb (clock_of w) end_slot)
+    ∷ (check OutShort (leb (5 * links_of w) size)
+    ∷ (check NotSound (sound_of (moved w))
     ∷ [])))
 
-unfoldable pub slot_turn : Store → (size : ℕ) → Turn
-slot_turn w size = first_failed Refused (slot_checks w size) Ran
+-- whether it runs, or why not
+unfoldable pub slot_turn : Store → (size : ℕ) → Result (Unit {0}) Refusal
+slot_turn w size = first_failed Err (slot_checks w size) (Ok tt)
 
 -- "Two more lent numbers take its number and place, or 0 and 0 if the slot ran."
-abbrev pub number_on : Turn → ℕ
-number_on Ran = 0
-number_on (Refused number place) = number
+abbrev pub number_on : Result (Unit {0}) Refusal → ℕ
+number_on (Ok ran) = 0
+number_on (Err refusal) = number_of refusal
 
-abbrev pub place_on : Turn → ℕ
-place_on Ran = 0
-place_on (Refused number place) = place
+abbrev pub place_on : Result (Unit {0}) Refusal → ℕ
+place_on (Ok ran) = 0
+place_on (Err refusal) = place_of refusal
 
 -- "a refused slot gives back an empty part"; nothing stored changes
-abbrev pub sends_on : Turn → Store → List Send
-sends_on Ran w = slot_sends w
-sends_on (Refused number place) w = []
+abbrev pub sends_on : Result (Unit {0}) Refusal → Store → List Send
+sends_on (Ok ran) w = slot_sends w
+sends_on (Err refusal) w = []
 
-abbrev pub store_on : Turn → Store → Store
-store_on Ran w = moved w
-store_on (Refused number place) w = w
+abbrev pub store_on : Result (Unit {0}) Refusal → Store → Store
+store_on (Ok ran) w = moved w
+store_on (Err refusal) w = w
 
 -- The slot: its number and place, its sends, the later store, and the later output, of which "the rest .. is unchanged".
 abbrev pub slot_number : Store → (size : ℕ) → ℕ
