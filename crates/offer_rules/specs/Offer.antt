@@ -1,12 +1,16 @@
 -- Document 01, "Offering": "All packets of a message are offered at once."
 use Rattle.std.specs.Prelude.{ℕ, zero, suc, ◌+◌, ◌-◌, ◌*◌, max, Bool, List, [], ◌∷◌, leb, ltb}
+use Rattle.std.specs.declared.result.Result.{Result}
+use Rattle.std.specs.declared.result.Result.TheVariants.{Ok, Err}
 use Rattle.kinds.specs.Ranges.{within, end_slot}
+use Rattle.kinds.specs.Refusals.{number_of, place_of}
+use Rattle.kinds.specs.declared.Refusal.{Refusal}
+use Rattle.kinds.specs.declared.Refusal.TheVariants.{NoChannel, MessageLength, Burst, EndSlot, NotSound}
 use Rattle.store.specs.Layout.{Store, clock_of, c_of, p_of, b_of, messages_of, time_of, with_messages, with_time, with_end, is_channel}
 use Rattle.store.specs.Amounts.{accepted_of}
 use Rattle.store.specs.Sound.{sound_of}
 use Rattle.checks.specs.Checks.{Check, check, first_failed}
-use Rattle.offer_rules.specs.declared.Offered.{Offered}
-use Rattle.offer_rules.specs.declared.Offered.TheVariants.{Accepted, Refused}
+use Rattle.offer_rules.specs.declared.Accepted.{Accepted}
 
 -- "Its logical time is the larger of the present slot and the channel's last logical time plus p; for the first it is the present
 -- slot."
@@ -30,22 +34,23 @@ offered w x packets =
 -- "Checks run in this order: .. offer 17, 14, 11, 12, 13"; 17 once more "after all other checks"
 abbrev pub offer_checks : Store → (x packets : ℕ) → List Check
 offer_checks w x packets =
-    check 17 (sound_of w)
-    ∷ (check 14 (ltb (clock_of w) end_slot)
-    ∷ (check 11 (is_channel w x)
-    ∷ (check 12 (within 1 (c_of w x) packets)
-    ∷ (check 13 (in_burst w x)
-    ∷ (check 17 (sound_of (offered w x packets))
+    check NotSound (sound_of w)
+    ∷ (check EndSlot (ltb (clock_of w) end_slot)
+    ∷ (check NoChannel (is_channel w x)
+    ∷ (check MessageLength (within 1 (c_of w x) packets)
+    ∷ (check Burst (in_burst w x)
+    ∷ (check NotSound (sound_of (offered w x packets))
     ∷ [])))))
 
 -- Messages are counted from 0 in an answer: the new one has the number of those before it.
-unfoldable pub offer_answer : Store → (x packets : ℕ) → Offered
-offer_answer w x packets = first_failed Refused (offer_checks w x packets) (Accepted (messages_of w x) (offer_time w x))
+unfoldable pub offer_answer : Store → (x packets : ℕ) → Result Accepted Refusal
+offer_answer w x packets =
+    first_failed Err (offer_checks w x packets) (Ok (record { message = messages_of w x; time = offer_time w x }))
 
 -- "A refused message does not move the last logical time", nor anything else.
-abbrev pub store_on : Offered → Store → (x packets : ℕ) → Store
-store_on (Accepted message logical) w x packets = offered w x packets
-store_on (Refused number place) w x packets = w
+abbrev pub store_on : Result Accepted Refusal → Store → (x packets : ℕ) → Store
+store_on (Ok accepted) w x packets = offered w x packets
+store_on (Err refusal) w x packets = w
 
 unfoldable pub offer_store : Store → (x packets : ℕ) → Store
 offer_store w x packets = store_on (offer_answer w x packets) w x packets
@@ -58,6 +63,7 @@ pub record Values : Type 0 where
   pub message : ℕ
   pub logical : ℕ
 
-abbrev pub values_of : Offered → (message logical : ℕ) → Values
-values_of (Accepted n time) message logical = record { number = 0; place = 0; message = n; logical = time }
-values_of (Refused number place) message logical = record { number = number; place = place; message = message; logical = logical }
+abbrev pub values_of : Result Accepted Refusal → (message logical : ℕ) → Values
+values_of (Ok x) message logical = record { number = 0; place = 0; message = x.message; logical = x.time }
+values_of (Err refusal) message logical =
+    record { number = number_of refusal; place = place_of refusal; message = message; logical = logical }
