@@ -19,13 +19,13 @@ use Rattle.slot_packet.specs.declared.Found.{Found}
 
 -- One step back: message n, with `left` more that may be looked at.
 module _ (w : Store) (x u : ℕ) where
-  pub message_none : (n left : ℕ) → 0 < left → n ≡ 0 → message_with w x u n left ≡ n
+  message_none : (n left : ℕ) → 0 < left → n ≡ 0 → message_with w x u n left ≡ n
   unfolding message_with
   message_none n zero h z = absurd (omega arith)
   message_none zero (suc left) h z = refl
   message_none (suc n) (suc left) h z = absurd (omega arith)
 
-  pub message_last : (n left : ℕ) → left ≤ 0 → message_with w x u n left ≡ n
+  message_last : (n left : ℕ) → left ≤ 0 → message_with w x u n left ≡ n
   unfolding message_with
   message_last n zero h = refl
   message_last n (suc left) h = absurd (omega arith)
@@ -47,33 +47,44 @@ module _ (w : Store) (x u : ℕ) where
       let m : u < end_of w x n = simp unary_clauses at (rw f at l) in
       simp unary_clauses (rw (lt-leb (end_of w x n) u m, message_with))
 
--- A loop back over the messages: message n stands at place `at` of the ring, and what is left decides.
-pub record Looking (w : Store) (x j u n at left : ℕ) : Type 0 where
+-- A loop back over the messages, `seen` of them so far: message n stands at place `at` of the ring, and what is left decides.
+pub record Looking (w : Store) (x j u n at seen : ℕ) : Type 0 where
   pub place : at ≡ n % ring
-  pub same : message_of w x j ≡ message_with w x u n left
-
--- what was found, number and place
-pub found_is : (w : Store) (x j u n at left : ℕ) → Looking w x j u n at left → n ≡ message_of w x j
-    → ◌≡◌ {A = Found} (record { number = n; place = at }) (record { number = message_of w x j; place = message_of w x j % ring })
-found_is w x j u n at left o e = rw (o.place, e)
+  pub same : message_of w x j ≡ message_with w x u n (ring - 1 - seen)
 
 pub found_inside : (w : Store) (x j : ℕ) (found : Found)
     → found ≡ record { number = message_of w x j; place = message_of w x j % ring } → found.place < ring
 found_inside w x j found e = ring_inside (message_of w x j) found.place (rw e)
 
-module _ (w : Store) (x j u n at left : ℕ) (o : Looking w x j u n at left) (z : n ≡ 0 → ⊥) (b : ℕ) (p : b ≡ place_before at) where
-  place_back : b ≡ (n - 1) % ring
-  place_back = p ∙ ring_back n at o.place z
+module _ {w : Store} {x j u n at seen : ℕ} (o : Looking w x j u n at seen) where
+  -- what was found, number and place
+  found_is : n ≡ message_of w x j
+      → ◌≡◌ {A = Found} (record { number = n; place = at }) (record { number = message_of w x j; place = message_of w x j % ring })
+  found_is e = rw (o.place, e)
 
-  end_back : (e : ℕ) → e ≡ end_of w x b → e ≡ end_of w x (n - 1)
-  end_back e f = f ∙ ring_end (n - 1) b place_back w x
+  pub found_last : ring - 1 ≤ seen
+      → ◌≡◌ {A = Found} (record { number = n; place = at }) (record { number = message_of w x j; place = message_of w x j % ring })
+  found_last h = found_is (sym (o.same ∙ message_last w x u n (ring - 1 - seen) (omega arith)))
 
-  pub looking_found : (e : ℕ) → e ≡ end_of w x b → 0 < left → e ≤ u → n ≡ message_of w x j
-  looking_found e f h l = sym (o.same ∙ message_here w x u n left e h z (end_back e f) l)
+  pub found_none : seen < ring - 1 → n ≡ 0
+      → ◌≡◌ {A = Found} (record { number = n; place = at }) (record { number = message_of w x j; place = message_of w x j % ring })
+  found_none h z = found_is (sym (o.same ∙ message_none w x u n (ring - 1 - seen) (omega arith) z))
 
-  pub looking_back : (e : ℕ) → e ≡ end_of w x b → 0 < left → u < e → Looking w x j u (n - 1) b (left - 1)
-  looking_back e f h l =
-      record { place = place_back; same = o.same ∙ message_back w x u n left e h z (end_back e f) l }
+  module _ (h : seen < ring - 1) (z : n ≡ 0 → ⊥) {b e : ℕ} (p : b ≡ place_before at) (f : e ≡ end_of w x b) where
+    place_back : b ≡ (n - 1) % ring
+    place_back = p ∙ ring_back n at o.place z
+
+    end_back : e ≡ end_of w x (n - 1)
+    end_back = f ∙ ring_end (n - 1) b place_back w x
+
+    pub found_here : e ≤ u
+        → ◌≡◌ {A = Found} (record { number = n; place = at }) (record { number = message_of w x j; place = message_of w x j % ring })
+    found_here l = found_is (sym (o.same ∙ message_here w x u n (ring - 1 - seen) e (omega arith) z end_back l))
+
+    pub looking_back : u < e → Looking w x j u (n - 1) b (seen + 1)
+    looking_back l =
+        let k : ring - 1 - seen - 1 ≡ ring - 1 - (seen + 1) = omega arith in
+        record { place = place_back; same = rw k at (o.same ∙ message_back w x u n (ring - 1 - seen) e (omega arith) z end_back l) }
 
 -- Place j of the route of a sound channel: a logical time there is far from 2 ^ 64.
 module _ (w : Store) (e : sound_of w ≡ true) (x j : ℕ) (h : IsChannel w x) (l : j < hops_of w x) where

@@ -27,8 +27,7 @@ fn next(store: &[u64], x: usize, j: usize) -> Found
     let sent = channel::sent(store, x, j);
     let mut n = channel::messages(store, x);
     let mut at = channel::ring_place(n);
-    let mut left = store::UNDELIVERED;
-    while left > 0 {
+    for _ in 0..store::UNDELIVERED {
         if n == 0 {
             break;
         }
@@ -38,7 +37,6 @@ fn next(store: &[u64], x: usize, j: usize) -> Found
         }
         n -= 1;
         at = before;
-        left -= 1;
     }
     Found {
         number: n,
@@ -57,6 +55,7 @@ pub fn message(store: &[u64], x: usize, j: usize) -> u64
 }
 
 // The logical time of the packet that goes next at place `j` of a channel's route, where one is held.
+#[tactic(auto, using(slot_rules::proofs::Laws::Ready::ready, crate::proofs::Laws::delays_small))]
 pub fn logical(store: &[u64], x: usize, j: usize) -> u64
     requires store_value { sound_of store.now ≡ true }
     requires channel { IsChannel store.now x }

@@ -5,3 +5,4 @@ pub mod Rows
 pub mod Next
 pub mod Ends
 pub mod Sends
+pub mod Ready

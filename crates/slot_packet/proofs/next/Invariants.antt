@@ -1,0 +1,6 @@
+-- the messages passed end above the packet, so those left decide
+use Rattle.slot_packet.proofs.Laws.{Looking}
+use Rattle.slot_packet.proofs.next.Given as goal
+
+abbrev pub invariant-loop : goal.invariant-loop
+invariant-loop l = Looking l.store l.x l.j l.sent l.n l.at l.counter

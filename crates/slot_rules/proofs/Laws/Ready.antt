@@ -1,0 +1,38 @@
+-- What a call on a sound store asks before it reads: that the store is long enough, and each number within what is counted.
+use Prim.Native.Nat.{ℕ, ◌≤◌, ◌<◌}
+use mathlib.Core.Path.{◌≡◌}
+use mathlib.Core.Bool.{true}
+use Rattle.kinds.specs.Ranges.{most_links, most_channels, most_rows, most_hops, end_slot}
+use Rattle.store.specs.Layout.{Store, Long, links_of, clock_of, rows_of, hops_of, IsChannel}
+use Rattle.store.specs.Sound.{sound_of}
+use Rattle.store.specs.Ranged.{Ranged}
+use Rattle.store.proofs.Laws.Sound.{sound_is}
+use Rattle.store.proofs.Laws.Few.{few_channels, few_links, few_places, few_rows}
+use Rattle.store.proofs.Laws.Rows.{place_ranged}
+
+module _ (w : Store) (e : sound_of w ≡ true) where
+  pub long_enough : Long w
+  long_enough = (sound_is w e).long
+
+  pub clock_small : clock_of w ≤ end_slot
+  clock_small = (sound_is w e).counts.clock_most
+
+  pub links_few : links_of w ≤ most_links
+  links_few = (sound_is w e).counts.links_most
+
+  pub link_small : (l : ℕ) → l < links_of w → l < most_links
+  link_small = few_links (sound_is w e)
+
+  pub row_small : (l k : ℕ) → l < links_of w → k < rows_of w l → k < most_rows
+  row_small = few_rows (sound_is w e)
+
+  pub channel_small : (x : ℕ) → IsChannel w x → x < most_channels
+  channel_small = few_channels (sound_is w e)
+
+  pub place_small : (x j : ℕ) → IsChannel w x → j < hops_of w x → j < most_hops
+  place_small = few_places (sound_is w e)
+
+  pub place_in_range : (x j : ℕ) → IsChannel w x → j < hops_of w x → Ranged w x
+  place_in_range = place_ranged w e
+
+pub ruleset ready = (long_enough, clock_small, links_few, link_small, row_small, channel_small, place_small, place_in_range)
