@@ -2,25 +2,11 @@
 use Prim.Native.Nat.{ℕ, ◌+◌, ◌≤◌, ◌<◌}
 use mathlib.Core.Path.{◌≡◌}
 use mathlib.Core.Bool.{true, false}
-use native.Mathlib.Omega.{arith}
-use mir.Syntax.{w64}
-use mir.Val.{Fits}
 use borrow.Author.Tests.{le-leb, lt-leb}
-use Rattle.kinds.specs.Ranges.{most_p, end_slot}
-use Rattle.store.specs.Layout.{Store, links_of, clock_of, horizon_of, delay_of}
-use Rattle.store.specs.Sound.{sound_of}
-use Rattle.store.proofs.Laws.Sound.{sound_is}
-use Rattle.store.proofs.Laws.Rows.{Row, row_channel, row_place}
+use Rattle.store.specs.Layout.{Store, clock_of, delay_of}
+use Rattle.store.proofs.Laws.Rows.{Row}
 use Rattle.slot_rules.specs.Head.{logical_of, is_held}
 use Rattle.slot_rules.specs.Pick.{row_held, row_current, row_early, row_logical, row_deadline}
-use Rattle.slot_packet.proofs.Laws.{delay_small}
-
--- the horizon's end can be summed
-pub last_fits : (w : Store) → sound_of w ≡ true → (l : ℕ) → l < links_of w → {n b : ℕ} → n ≡ clock_of w → b ≡ horizon_of w l
-    → Fits w64 (n + b)
-last_fits w e l h en eb =
-    let s = sound_is w e in
-    record { fits = omega (arith, s.counts.clock_most, (s.link l h).good.horizon_most) }
 
 -- The packet that row k holds: its logical time is t.
 pub record Held (w : Store) (l k x j now t : ℕ) : Type 0 where
@@ -60,10 +46,3 @@ module _ {w : Store} {l k x j now t : ℕ} (p : Held w l k x j now t) where
   module _ {d : ℕ} (e : d ≡ delay_of w x j) where
     pub held_deadline : t + d ≡ row_deadline w l k
     held_deadline = rw (p.time_is, e, p.row.its_channel, p.row.its_place)
-
-    -- both far from 2 ^ 64
-    pub held_small : (now ≤ end_slot) × (d ≤ most_p)
-    held_small =
-        let r = p.row in
-        let small = delay_small w r.sound x j (row_channel r) (row_place r) in
-        (rw p.now_is (sound_is w r.sound).counts.clock_most, rw e small)

@@ -4,104 +4,102 @@
 ghost use Rattle.std.specs.Prelude.{◌≡◌, true, ◌<◌};
 ghost use Rattle.store.specs.Layout.{links_of};
 ghost use Rattle.store.specs.Sound.{sound_of};
-ghost use Rattle.slot_rules.specs.Pick.{pick_from, pick_of};
+ghost use Rattle.slot_rules.specs.Pick.{pick_from, pick_of, row_of};
 ghost use Rattle.slot_pick.specs.Picks.{picks_to};
-ghost use Rattle.slot_pick.specs.Rows.{goes_first, Timed};
+ghost use Rattle.slot_pick.specs.Rows.{goes_first, position_of, Timed};
 
 use kinds::Network;
 use store::{channel, head, link};
 
-// Whether a packet of channel `x` goes before the best one so far, that of channel `other` with the key `than`, at position
-// `best`, 0 for none: by the key, "ties to the lower channel number".
-fn goes_before(key: u64, x: usize, best: usize, than: u64, other: usize) -> bool
-    ensures { result ≡ goes_first key x best than other }
-{
-    if best == 0 {
-        return true;
-    }
-    if key < than {
-        return true;
-    }
-    if key != than {
-        return false;
-    }
-    x < other
+// A row that may be picked, with its key (a deadline or a logical time) and its channel.
+#[derive(Clone, Copy)]
+struct Candidate {
+    row: usize,
+    key: u64,
+    channel: usize,
 }
 
-// The current packet with the earliest deadline, at position `due`, 0 for none; with none, the early one with the least
-// logical time, at `soon`, if that is within the horizon.
-fn chosen(store: &[u64], l: usize, due: usize, soon: usize, least: u64) -> usize
+impl Candidate {
+    // Whether it goes before the best one so far: by the key, "ties to the lower channel number".
+    fn goes_before(self, best: Option<Candidate>) -> bool
+        ensures { result ≡ goes_first self best }
+    {
+        let Some(best) = best else {
+            return true;
+        };
+        self.key < best.key || (self.key == best.key && self.channel < best.channel)
+    }
+}
+
+// The current packet with the earliest deadline, `due`; with none, the early one with the least logical time, `soon`, if that is
+// within the horizon.
+#[tactic(auto, using(slot_rules::proofs::Laws::Ready::ready))]
+fn chosen(store: &[u64], l: usize, due: Option<Candidate>, soon: Option<Candidate>) -> Option<usize>
     requires store_value { sound_of store.now ≡ true }
     requires l_bound { l < links_of store.now }
-    requires timed { Timed store.now l soon least }
-    ensures { result ≡ pick_from store.now l due soon }
+    requires timed { Timed store.now l soon }
+    ensures { result ≡ row_of (pick_from store.now l (position_of due) (position_of soon)) }
 {
-    if due > 0 {
-        return due;
+    if let Some(first) = due {
+        return Some(first.row);
     }
-    if soon == 0 {
-        return 0;
-    }
+    let first = soon?;
     let last = head::clock(store) + link::horizon(store, l);
-    let near = least <= last;
-    if near {
-        return soon;
-    }
-    0
+    let near = first.key <= last;
+    if near { Some(first.row) } else { None }
 }
 
-// The position, counted from 1, of the row of link `l` whose packet is picked; 0 for none.
-pub fn pick(store: &[u64], l: usize) -> usize
+// The row of link `l` whose packet is picked, if any is.
+#[tactic(auto, using(slot_rules::proofs::Laws::Ready::ready))]
+pub fn pick(store: &[u64], l: usize) -> Option<usize>
     requires store_value { sound_of store.now ≡ true }
     requires l_bound { l < links_of store.now }
-    ensures { result ≡ pick_of store.now l }
+    ensures { result ≡ row_of (pick_of store.now l) }
 {
     let now = head::clock(store);
     let rows = link::rows(store, l);
     // so far, the current packet with the earliest deadline, and the early one with the least logical time
-    let mut due: usize = 0;
-    let mut earliest: u64 = 0;
-    let mut due_channel: usize = 0;
-    let mut soon: usize = 0;
-    let mut least: u64 = 0;
-    let mut soon_channel: usize = 0;
-    let mut k: usize = 0;
-    while k < rows {
+    let mut due: Option<Candidate> = None;
+    let mut soon: Option<Candidate> = None;
+    for k in 0..rows {
         let x = link::row_channel(store, l, k);
         let j = link::row_place(store, l, k);
-        k += 1;
         if channel::sent(store, x, j) < store_route::entered(store, x, j) {
             let logical = slot_packet::logical(store, x, j);
             if logical > now {
-                if goes_before(logical, x, soon, least, soon_channel) {
-                    soon = k;
-                    least = logical;
-                    soon_channel = x;
+                let next = Candidate {
+                    row: k,
+                    key: logical,
+                    channel: x,
+                };
+                if next.goes_before(soon) {
+                    soon = Some(next);
                 }
             } else {
                 let deadline = logical + channel::delay(store, x, j);
-                if goes_before(deadline, x, due, earliest, due_channel) {
-                    due = k;
-                    earliest = deadline;
-                    due_channel = x;
+                let next = Candidate {
+                    row: k,
+                    key: deadline,
+                    channel: x,
+                };
+                if next.goes_before(due) {
+                    due = Some(next);
                 }
             }
         }
     }
-    chosen(store, l, due, soon, least)
+    chosen(store, l, due, soon)
 }
 
-// What each link picks; 0 where there is no link.
-pub fn picks(store: &[u64]) -> [u64; Network::MOST_LINKS]
+// What each link picks; none where there is no link.
+#[tactic(auto, using(slot_rules::proofs::Laws::Ready::ready, crate::proofs::Laws::picks_none, crate::proofs::Laws::picks_more))]
+pub fn picks(store: &[u64]) -> [Option<usize>; Network::MOST_LINKS]
     requires { sound_of store.now ≡ true }
     ensures { result ≡ picks_to store.now (links_of store.now) }
 {
-    let links = head::links(store);
-    let mut picked = [0u64; Network::MOST_LINKS];
-    let mut l: usize = 0;
-    while l < links {
-        picked[l] = pick(store, l) as u64;
-        l += 1;
+    let mut picked = [None; Network::MOST_LINKS];
+    for l in 0..head::links(store) {
+        picked[l] = pick(store, l);
     }
     picked
 }

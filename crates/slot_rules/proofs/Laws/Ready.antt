@@ -2,8 +2,8 @@
 use Prim.Native.Nat.{ℕ, ◌≤◌, ◌<◌}
 use mathlib.Core.Path.{◌≡◌}
 use mathlib.Core.Bool.{true}
-use Rattle.kinds.specs.Ranges.{most_links, most_channels, most_rows, most_hops, end_slot}
-use Rattle.store.specs.Layout.{Store, Long, links_of, clock_of, rows_of, hops_of, IsChannel}
+use Rattle.kinds.specs.Ranges.{most_links, most_channels, most_rows, most_hops, most_horizon, end_slot}
+use Rattle.store.specs.Layout.{Store, Long, links_of, clock_of, horizon_of, rows_of, row_channel_of, row_place_of, hops_of, IsChannel}
 use Rattle.store.specs.Sound.{sound_of}
 use Rattle.store.specs.Ranged.{Ranged}
 use Rattle.store.proofs.Laws.Sound.{sound_is}
@@ -23,8 +23,17 @@ module _ (w : Store) (e : sound_of w ≡ true) where
   pub link_small : (l : ℕ) → l < links_of w → l < most_links
   link_small = few_links (sound_is w e)
 
+  pub horizon_small : (l : ℕ) → l < links_of w → horizon_of w l ≤ most_horizon
+  horizon_small l h = ((sound_is w e).link l h).good.horizon_most
+
   pub row_small : (l k : ℕ) → l < links_of w → k < rows_of w l → k < most_rows
   row_small = few_rows (sound_is w e)
+
+  pub row_has_channel : (l k : ℕ) → l < links_of w → k < rows_of w l → IsChannel w (row_channel_of w l k)
+  row_has_channel l k h i = (((sound_is w e).rows l h).rows k i).channel
+
+  pub row_has_place : (l k : ℕ) → l < links_of w → k < rows_of w l → row_place_of w l k < hops_of w (row_channel_of w l k)
+  row_has_place l k h i = (((sound_is w e).rows l h).rows k i).place
 
   pub channel_small : (x : ℕ) → IsChannel w x → x < most_channels
   channel_small = few_channels (sound_is w e)
@@ -35,4 +44,4 @@ module _ (w : Store) (e : sound_of w ≡ true) where
   pub place_in_range : (x j : ℕ) → IsChannel w x → j < hops_of w x → Ranged w x
   place_in_range = place_ranged w e
 
-pub ruleset ready = (long_enough, clock_small, links_few, link_small, row_small, channel_small, place_small, place_in_range)
+pub ruleset ready = (long_enough, clock_small, links_few, link_small, horizon_small, row_small, row_has_channel, row_has_place, channel_small, place_small, place_in_range)
