@@ -3,18 +3,18 @@ use Prim.Native.Nat.{ℕ, ◌≤◌, ◌<◌}
 use mathlib.Core.Path.{◌≡◌, ◌∙◌}
 use mathlib.Core.List.{List}
 use native.Mathlib.Omega.{arith}
+use Rattle.std.specs.declared.result.Result.TheVariants.{Ok}
 use Rattle.kinds.specs.Ranges.{most_links}
 use Rattle.store.specs.Layout.{Store, links_of, clock_of}
 use Rattle.store_same.proofs.Same.{SameNetwork}
 use Rattle.setup_list.specs.List.{links_in}
 use Rattle.setup_fresh.proofs.Laws.Fresh.{fresh_links, fresh_from, fresh_to, fresh_horizon, fresh_buffer}
 use Rattle.setup_fresh.proofs.Laws.Fresh.{fresh_clock as clock_zero}
-use Rattle.setup.specs.declared.SetUp.TheVariants.{Ready}
 use Rattle.setup.specs.SetUp.{set_up_answer, set_up_store}
 use Rattle.setup.proofs.Laws.Answer.{Accepted, ready_accepted, ready_store, accepted_few}
 use Rattle.promise.specs.Promise.{AsSetUp}
 
-pub network_made : (w : Store) (links : List ℕ) → set_up_answer w links ≡ Ready → AsSetUp links (set_up_store w links)
+pub network_made : (w : Store) (links : List ℕ) → set_up_answer w links ≡ Ok tt → AsSetUp links (set_up_store w links)
 network_made w links e =
     let a : Accepted w links = ready_accepted w links e in
     let few : links_in links ≤ most_links = accepted_few w links a in
@@ -26,7 +26,7 @@ network_made w links e =
       buffer_is = fresh_buffer w links a.long few;
     })
 
-pub fresh_clock : (w : Store) (links : List ℕ) → set_up_answer w links ≡ Ready → clock_of (set_up_store w links) ≡ 0
+pub fresh_clock : (w : Store) (links : List ℕ) → set_up_answer w links ≡ Ok tt → clock_of (set_up_store w links) ≡ 0
 fresh_clock w links e = rw (ready_store w links e) (clock_zero w links)
 
 pub network_kept : {links : List ℕ} {w w' : Store} → links_of w ≤ most_links → SameNetwork w w' → AsSetUp links w → AsSetUp links w'

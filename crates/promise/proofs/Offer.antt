@@ -5,13 +5,14 @@ use mathlib.Core.List.{List, [], ◌∷◌, ◌++◌, map, append-nil, map-appen
 use native.Mathlib.Decide.{ℕ_discrete}
 use native.Mathlib.Omega.{arith}
 use lib.ListN.{length}
+use Rattle.std.specs.declared.result.Result.TheVariants.{Ok}
+use Rattle.offer_rules.specs.declared.Accepted.{Accepted}
 use Rattle.schedule.specs.Lists.{Every}
 use Rattle.schedule.specs.Messages.{Message, ended}
 use Rattle.schedule.proofs.Lists.{every_append, every_imp}
 use Rattle.store.specs.Layout.{Store}
 use Rattle.store.specs.Amounts.{accepted_of}
 use Rattle.store_same.proofs.Settled.{channels_same, network_same}
-use Rattle.offer_rules.specs.declared.Offered.TheVariants.{Accepted}
 use Rattle.offer_rules.specs.Offer.{offered, offer_answer, offer_store}
 use Rattle.promise_queue.specs.Queue.{packets_from, packets_of as names_of}
 use Rattle.promise_queue.proofs.Ends.{end_all}
@@ -49,8 +50,14 @@ logicals_of P m l (suc k) f =
     every_append P (packets_of m l k) (record { message = m; packet = k; logical = l } ∷ []) (logicals_of P m l k f)
     (f _ refl refl, tt)
 
-module _ {links : List ℕ} {w : Store} {h : List Event} (i : Invariant links w h) (x packets n time : ℕ)
-    (a : offer_answer w x packets ≡ Accepted n time) where
+module _ {links : List ℕ} {w : Store} {h : List Event} (i : Invariant links w h) (x packets : ℕ) (y : Accepted)
+    (a : offer_answer w x packets ≡ Ok y) where
+  abbrev n : ℕ
+  n = y.message
+
+  abbrev time : ℕ
+  time = y.time
+
   abbrev one : List Event
   one = accepted x n time packets ∷ []
 
@@ -60,8 +67,8 @@ module _ {links : List ℕ} {w : Store} {h : List Event} (i : Invariant links w 
   abbrev more : (u : ℕ) → List Message
   more = messages_in (h ++ one)
 
-  is : AcceptedIs w x packets n time
-  is = accepted_is w x packets n time a
+  is : AcceptedIs w x packets y
+  is = accepted_is w x packets y a
 
   p : Passed w x packets
   p = is.passed

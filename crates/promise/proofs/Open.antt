@@ -4,12 +4,11 @@ use mathlib.Core.Path.{◌≡◌, refl, ◌∙◌, fun_ext}
 use mathlib.Core.List.Memᴰ
 use mathlib.Core.List.{List, [], ◌∷◌, ◌++◌, append-nil}
 use native.Mathlib.Omega.{arith}
+use Rattle.std.specs.declared.result.Result.TheVariants.{Ok}
 use Rattle.schedule.proofs.Lists.{every_append}
 use Rattle.store.specs.Layout.{Store, channels_of, hops_of, sent_of}
 use Rattle.folds.proofs.Folds.{below}
-use Rattle.setup.specs.declared.SetUp.TheVariants.{Ready}
 use Rattle.setup.specs.SetUp.{set_up_answer, set_up_store}
-use Rattle.open_rules.specs.declared.Outcome.TheVariants.{Accepted}
 use Rattle.open_rules.specs.Request.{Request, hops}
 use Rattle.open_rules.specs.Refusal.{delays_of, reserved_for}
 use Rattle.open_rules.specs.Open.{open_outcome, open_answer, open_store}
@@ -33,7 +32,7 @@ use Rattle.promise.proofs.Network.{network_made, network_kept}
 use Rattle.promise.proofs.Invariant.{Invariant, EventIs, still_opened}
 use Rattle.promise.proofs.Events.{events_stay}
 
-pub set_up_makes : (w : Store) (links : List ℕ) → set_up_answer w links ≡ Ready → Invariant links (set_up_store w links) []
+pub set_up_makes : (w : Store) (links : List ℕ) → set_up_answer w links ≡ Ok tt → Invariant links (set_up_store w links) []
 unfolding messages_from packets_in sends_in packets_from
 set_up_makes w links e = record {
   network = network_made w links e;
@@ -50,7 +49,7 @@ set_up_makes w links e = record {
 }
 
 module _ {links : List ℕ} {w : Store} {h : List Event} (i : Invariant links w h) (q : Request) (n : ℕ)
-    (a : open_outcome w q ≡ Accepted n) where
+    (a : open_outcome w q ≡ Ok n) where
   abbrev w' : Store
   w' = open_store w q
 

@@ -4,16 +4,18 @@ use Prim.Native.Nat.{ℕ}
 use mathlib.Core.Path.{◌≡◌, refl, ap, ◌∙◌, sym}
 use mathlib.Core.List.{List, ◌++◌, append-nil}
 use native.Mathlib.Omega.{arith}
+use Rattle.std.specs.declared.result.Result.{Result}
+use Rattle.std.specs.declared.result.Result.TheVariants.{Ok, Err}
+use Rattle.kinds.specs.declared.Refusal.{Refusal}
+use Rattle.kinds.specs.declared.Refusal.TheVariants.{Range, RouteLength, NoLink, LinkTwice, LinksApart, ChannelsFull, RowsFull}
+use Rattle.kinds.specs.declared.Refusal.TheVariants.{NoResponse, OverD, BufferFull, NoChannel, MessageLength, Burst, EndSlot}
+use Rattle.kinds.specs.declared.Refusal.TheVariants.{OutShort, BadLinks, NotSound, BadTable}
+use Rattle.kinds.specs.Refusals.{number_of}
+use Rattle.offer_rules.specs.declared.Accepted.{Accepted}
 use Rattle.store.specs.Layout.{Store, channels_of, clock_of}
 use Rattle.store.proofs.Laws.Sound.{is_sound}
-use Rattle.open_rules.specs.declared.Outcome.{Outcome}
-use Rattle.open_rules.specs.declared.Outcome.TheVariants.{Accepted as Opened, Refused as NotOpened}
 use Rattle.open_rules.specs.Request.{Request}
 use Rattle.open_rules.specs.Open.{open_outcome, open_answer, open_store}
-use Rattle.offer_rules.specs.declared.Offered.{Offered}
-use Rattle.offer_rules.specs.declared.Offered.TheVariants.{Accepted, Refused}
-use Rattle.slot_rules.specs.declared.Turn.{Turn}
-use Rattle.slot_rules.specs.declared.Turn.TheVariants.{Ran, Refused as NotRun}
 use Rattle.offer_rules.specs.Offer.{offer_answer, offer_store}
 use Rattle.slot_rules.specs.Slot.{slot_turn, slot_number}
 use Rattle.open_keeps.proofs.Kept.{clock_kept}
@@ -41,10 +43,31 @@ use Rattle.promise.proofs.Slots.{slots}
 use Rattle.promise.proofs.Own.{own_answer_lem}
 use Rattle.promise.proofs.Arrives.{never_late, arrives}
 
-refused_offer : (w : Store) (x packets number place : ℕ) → offer_answer w x packets ≡ Refused number place
+refused_offer : (w : Store) (x packets : ℕ) (refusal : Refusal) → offer_answer w x packets ≡ Err refusal
     → offer_store w x packets ≡ w
 unfolding offer_store
-refused_offer w x packets number place e = rw e
+refused_offer w x packets refusal e = rw e
+
+-- the refusal with the number 17
+is_17 : (refusal : Refusal) → number_of refusal ≡ 17 → refusal ≡ NotSound
+is_17 Range e = absurd (omega arith)
+is_17 RouteLength e = absurd (omega arith)
+is_17 (NoLink place) e = absurd (omega arith)
+is_17 (LinkTwice place) e = absurd (omega arith)
+is_17 (LinksApart place) e = absurd (omega arith)
+is_17 ChannelsFull e = absurd (omega arith)
+is_17 (RowsFull place) e = absurd (omega arith)
+is_17 (NoResponse place) e = absurd (omega arith)
+is_17 OverD e = absurd (omega arith)
+is_17 (BufferFull place) e = absurd (omega arith)
+is_17 NoChannel e = absurd (omega arith)
+is_17 MessageLength e = absurd (omega arith)
+is_17 Burst e = absurd (omega arith)
+is_17 EndSlot e = absurd (omega arith)
+is_17 OutShort e = absurd (omega arith)
+is_17 (BadLinks place) e = absurd (omega arith)
+is_17 NotSound e = refl
+is_17 BadTable e = absurd (omega arith)
 
 module _ {links : List ℕ} {w : Store} {h : List Event} (i : Invariant links w h) where
   -- each call; a refused one changes nothing
@@ -52,20 +75,20 @@ module _ {links : List ℕ} {w : Store} {h : List Event} (i : Invariant links w 
   unfolding store_after events_in open_events
   open_call q = go (open_outcome w q) (open_answer w q).outcome refl (outcome_is w q)
     where
-      go : (o o' : Outcome) → open_outcome w q ≡ o → o' ≡ o
+      go : (o o' : Result ℕ Refusal) → open_outcome w q ≡ o → o' ≡ o
           → Invariant links (open_store w q) (h ++ open_events o' q (open_answer w q))
-      go (Opened n) o' e f = rw f (open_keeps i q n e)
-      go (NotOpened number place) o' e f = rw (refused_open w q number place e, f, append-nil h) i
+      go (Ok n) o' e f = rw f (open_keeps i q n e)
+      go (Err refusal) o' e f = rw (refused_open w q refusal e, f, append-nil h) i
 
   offer_call : (x packets : ℕ)
       → Invariant links (store_after ours (offers x packets) w) (h ++ events_in ours (offers x packets) w)
   unfolding store_after events_in offer_events
   offer_call x packets = go (offer_answer w x packets) refl
     where
-      go : (a : Offered) → offer_answer w x packets ≡ a
+      go : (a : Result Accepted Refusal) → offer_answer w x packets ≡ a
           → Invariant links (offer_store w x packets) (h ++ offer_events (offer_answer w x packets) x packets)
-      go (Accepted n time) e = rw e (offer_keeps i x packets n time e)
-      go (Refused number place) e = rw (refused_offer w x packets number place e, e, append-nil h) i
+      go (Ok a) e = rw e (offer_keeps i x packets a e)
+      go (Err refusal) e = rw (refused_offer w x packets refusal e, e, append-nil h) i
 
   any_call : (y : Call) → Invariant links (store_after ours y w) (h ++ events_in ours y w)
   unfolding store_after events_in
@@ -78,22 +101,22 @@ module _ {links : List ℕ} {w : Store} {h : List Event} (i : Invariant links w 
   open_clock : (q : Request) → clock_of (open_store w q) ≡ clock_of w
   open_clock q = go (open_outcome w q) refl
     where
-      go : (o : Outcome) → open_outcome w q ≡ o → clock_of (open_store w q) ≡ clock_of w
-      go (Opened n) e = clock_kept (open_kept q n e)
-      go (NotOpened number place) e = ap clock_of (refused_open w q number place e)
+      go : (o : Result ℕ Refusal) → open_outcome w q ≡ o → clock_of (open_store w q) ≡ clock_of w
+      go (Ok n) e = clock_kept (open_kept q n e)
+      go (Err refusal) e = ap clock_of (refused_open w q refusal e)
 
   offer_clock : (x packets : ℕ) → clock_of (offer_store w x packets) ≡ clock_of w
   offer_clock x packets = go (offer_answer w x packets) refl
     where
-      go : (a : Offered) → offer_answer w x packets ≡ a → clock_of (offer_store w x packets) ≡ clock_of w
-      go (Accepted n time) e = ap clock_of (accepted_is w x packets n time e).store_is ∙ offered_clock w x packets
-      go (Refused number place) e = ap clock_of (refused_offer w x packets number place e)
+      go : (a : Result Accepted Refusal) → offer_answer w x packets ≡ a → clock_of (offer_store w x packets) ≡ clock_of w
+      go (Ok a) e = ap clock_of (accepted_is w x packets a e).store_is ∙ offered_clock w x packets
+      go (Err refusal) e = ap clock_of (refused_offer w x packets refusal e)
 
-  slot_number_lem : (size : ℕ) (t : Turn) → slot_turn w size ≡ t → slot_number w size ≡ 17 → ⊥
-  slot_number_lem size Ran e f = let z : ◌≡◌ {A = ℕ} 0 17 = rw e at f in omega arith
-  slot_number_lem size (NotRun number place) e f =
-      let z : number ≡ 17 = rw e at f in
-      slot_never i.seen i.steady i.near size place (rw z at e)
+  slot_number_lem : (size : ℕ) (t : Result (Unit {0}) Refusal) → slot_turn w size ≡ t → slot_number w size ≡ 17 → ⊥
+  slot_number_lem size (Ok ran) e f = let z : ◌≡◌ {A = ℕ} 0 17 = rw e at f in omega arith
+  slot_number_lem size (Err refusal) e f =
+      let z : number_of refusal ≡ 17 = rw e at f in
+      slot_never i.seen i.steady i.near size (rw (is_17 refusal z) at e)
 
   new_number : NewNumber ours links w h
   new_number q x e o =
@@ -102,7 +125,7 @@ module _ {links : List ℕ} {w : Store} {h : List Event} (i : Invariant links w 
 
   never_17 : Never17 ours links w h
   never_17 = (
-    (λ q place e. open_never w q (is_sound w i.seen.sound) place (sym (outcome_is w q) ∙ e)),
+    (λ q e. open_never w q (is_sound w i.seen.sound) (sym (outcome_is w q) ∙ e)),
     (offer_never i.seen i.steady i.burst),
     (λ size e. slot_number_lem size (slot_turn w size) refl (omega (arith, e))),
     idle_never i,

@@ -8,14 +8,16 @@ use native.Mathlib.Nat.{min-le_left, min-le_right}
 use native.Mathlib.Omega.{arith}
 use lib.Dec.{ltb}
 use borrow.Author.Tests.{ltb-false}
+use Rattle.std.specs.declared.result.Result.{Result}
+use Rattle.std.specs.declared.result.Result.TheVariants.{Ok, Err}
+use Rattle.kinds.specs.declared.Refusal.{Refusal}
+use Rattle.kinds.specs.declared.Refusal.TheVariants.{EndSlot, NotSound}
 use Rattle.kinds.specs.Ranges.{end_slot}
 use Rattle.store.specs.Layout.{Store, links_of, clock_of}
 use Rattle.store.proofs.Laws.Sound.{is_sound}
 use Rattle.checks.specs.Checks.{first_failed}
 use Rattle.setup_list.specs.List.{links_in}
 use Rattle.slot_rules.specs.Slot.{slot_store}
-use Rattle.slot_rules.specs.declared.Waited.{Waited}
-use Rattle.slot_rules.specs.declared.Waited.TheVariants.{Slots, Refused}
 use Rattle.slot_rules.specs.Idle.{idle_of, skipped, wait_checks, idle_answer, skip_answer, skip_store}
 use Rattle.slot_wait.specs.Run.{run}
 use Rattle.slot_wait.proofs.Run.{run_turn, run_sent, skip_runs}
@@ -52,19 +54,19 @@ module _ {links : List ℕ} {w : Store} {h : List Event} (i : Invariant links w 
   run_is (suc n) = rw (run_is n)
 
   -- what the two calls answer: before the end slot so many slots, and at the end slot 14
-  wait_told : (slots : ℕ) → (first_failed Refused (wait_checks w) (Slots slots) ≡ Slots slots)
-      ⊎ ((end_slot ≤ clock_of w) × (first_failed Refused (wait_checks w) (Slots slots) ≡ Refused 14 0))
+  wait_told : (slots : ℕ) → (first_failed Err (wait_checks w) (Ok slots) ≡ Ok slots)
+      ⊎ ((end_slot ≤ clock_of w) × (first_failed Err (wait_checks w) (Ok slots) ≡ Err EndSlot))
   unfolding first_failed
   wait_told slots = go (ltb (clock_of w) end_slot) refl
     where
-      go : (t : Bool) → ltb (clock_of w) end_slot ≡ t → (first_failed Refused (wait_checks w) (Slots slots) ≡ Slots slots)
-          ⊎ ((end_slot ≤ clock_of w) × (first_failed Refused (wait_checks w) (Slots slots) ≡ Refused 14 0))
+      go : (t : Bool) → ltb (clock_of w) end_slot ≡ t → (first_failed Err (wait_checks w) (Ok slots) ≡ Ok slots)
+          ⊎ ((end_slot ≤ clock_of w) × (first_failed Err (wait_checks w) (Ok slots) ≡ Err EndSlot))
       go true e = inl (rw (is_sound w i.seen.sound, e))
       go false e = inr (ltb-false (clock_of w) end_slot e, rw (is_sound w i.seen.sound, e))
 
   -- as many slots as there are, or fewer, run and send nothing
-  abbrev rests : (answer : Waited) (count : ℕ) → count ≤ idle_of w
-      → (answer ≡ Slots count) ⊎ ((end_slot ≤ clock_of w) × (answer ≡ Refused 14 0)) → Rests ours links w h answer
+  abbrev rests : (answer : Result ℕ Refusal) (count : ℕ) → count ≤ idle_of w
+      → (answer ≡ Ok count) ⊎ ((end_slot ≤ clock_of w) × (answer ≡ Err EndSlot)) → Rests ours links w h answer
   rests answer count most told = record {
     count = count;
     told = told;
@@ -85,15 +87,15 @@ module _ {links : List ℕ} {w : Store} {h : List Event} (i : Invariant links w 
   }
 
   -- neither is 17
-  told_never : (answer : Waited) (place : ℕ) → Rests ours links w h answer → answer ≡ Refused 17 place → ⊥
-  told_never answer place r e = go r.told
+  told_never : (answer : Result ℕ Refusal) → Rests ours links w h answer → answer ≡ Err NotSound → ⊥
+  told_never answer r e = go r.told
     where
-      go : (answer ≡ Slots r.count) ⊎ ((end_slot ≤ clock_of w) × (answer ≡ Refused 14 0)) → ⊥
+      go : (answer ≡ Ok r.count) ⊎ ((end_slot ≤ clock_of w) × (answer ≡ Err EndSlot)) → ⊥
       go (inl a) = let y : ◌≡◌ {A = ℕ} 0 1 = cc in omega arith
-      go (inr a) = let f : answer ≡ Refused 14 0 = a.1 in let y : ◌≡◌ {A = ℕ} 14 17 = cc in omega arith
+      go (inr a) = let f : answer ≡ Err EndSlot = a.1 in let y : ◌≡◌ {A = ℕ} 0 1 = cc in omega arith
 
-  pub idle_never : (place : ℕ) → idle_answer w ≡ Refused 17 place → ⊥
-  idle_never place = told_never (idle_answer w) place idles
+  pub idle_never : idle_answer w ≡ Err NotSound → ⊥
+  idle_never = told_never (idle_answer w) idles
 
-  pub skip_never : (n place : ℕ) → skip_answer w n ≡ Refused 17 place → ⊥
-  skip_never n place = told_never (skip_answer w n) place (skips n).rests
+  pub skip_never : (n : ℕ) → skip_answer w n ≡ Err NotSound → ⊥
+  skip_never n = told_never (skip_answer w n) (skips n).rests

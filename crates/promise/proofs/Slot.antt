@@ -4,14 +4,15 @@ use mathlib.Core.Path.{◌≡◌, refl, ◌∙◌, fun_ext}
 use mathlib.Core.List.{List, [], ◌∷◌, ◌++◌, map, append-nil}
 use native.Mathlib.Omega.{arith}
 use borrow.Author.Tests.{ltb-true}
+use Rattle.std.specs.declared.result.Result.{Result}
+use Rattle.std.specs.declared.result.Result.TheVariants.{Ok, Err}
+use Rattle.kinds.specs.declared.Refusal.{Refusal}
 use Rattle.schedule.specs.Lists.{Every}
 use Rattle.kinds.specs.Ranges.{end_slot}
 use Rattle.schedule.proofs.Lists.{every_append}
 use Rattle.store.specs.Layout.{Store, clock_of}
 use Rattle.store_same.proofs.Settled.{channels_same, network_same}
 use Rattle.checks.proofs.Laws.{accepted_all}
-use Rattle.slot_rules.specs.declared.Turn.{Turn}
-use Rattle.slot_rules.specs.declared.Turn.TheVariants.{Ran, Refused as NotRun}
 use Rattle.slot_rules.specs.Slot.{Send, slot_sends, moved, slot_checks, slot_turn, slot_sent, slot_store}
 use Rattle.slot_keeps.proofs.After.{moved_settled}
 use Rattle.promise_view.specs.View.{Accepted}
@@ -33,14 +34,14 @@ events_of : (w : Store) (all : Accepted) (xs : List Send) → Every (EventIs w a
 events_of w all [] = tt
 events_of w all (y ∷ xs) = (tt, events_of w all xs)
 
-module _ {links : List ℕ} {w : Store} {h : List Event} (i : Invariant links w h) (size : ℕ) (r : slot_turn w size ≡ Ran) where
+module _ {links : List ℕ} {w : Store} {h : List Event} (i : Invariant links w h) (size : ℕ) (r : slot_turn w size ≡ Ok tt) where
   abbrev sends : List Event
   sends = map sent (slot_sends w)
 
   running : clock_of w < end_slot
   unfolding slot_turn
   running =
-      let all = accepted_all NotRun (slot_checks w size) Ran Ran (λ m at e. let z : ◌≡◌ {A = ℕ} 0 1 = cc in omega arith) r in
+      let all = accepted_all Err (slot_checks w size) (Ok tt) (Ok tt) (λ m e. let z : ◌≡◌ {A = ℕ} 0 1 = cc in omega arith) r in
       ltb-true (clock_of w) end_slot all.1.0
 
   without : (x : ℕ) → messages_in (h ++ sends) x ≡ messages_in h x
@@ -78,6 +79,6 @@ pub slot_call : {links : List ℕ} {w : Store} {h : List Event} → Invariant li
     → Invariant links (slot_store w size) (h ++ map sent (slot_sent w size))
 slot_call {links} {w} {h} i size = go (slot_turn w size) refl
   where
-    go : (t : Turn) → slot_turn w size ≡ t → Invariant links (slot_store w size) (h ++ map sent (slot_sent w size))
-    go Ran e = rw e (after i size e)
-    go (NotRun number place) e = rw (e, append-nil h) i
+    go : (t : Result (Unit {0}) Refusal) → slot_turn w size ≡ t → Invariant links (slot_store w size) (h ++ map sent (slot_sent w size))
+    go (Ok ran) e = rw e (after i size e)
+    go (Err refusal) e = rw (e, append-nil h) i

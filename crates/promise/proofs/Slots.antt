@@ -8,6 +8,8 @@ use native.Mathlib.Numerals.{add-one}
 use native.Mathlib.Omega.{arith}
 use lib.Dec.{leb, ltb}
 use borrow.Author.Tests.{ltb-true, ltb-false, leb-true, leb-false}
+use Rattle.std.specs.declared.result.Result.TheVariants.{Ok, Err}
+use Rattle.kinds.specs.declared.Refusal.TheVariants.{EndSlot, OutShort}
 use Rattle.kinds.specs.Ranges.{end_slot}
 use Rattle.schedule.specs.Lists.{Every}
 use Rattle.schedule.proofs.Lists.{every_append}
@@ -15,7 +17,6 @@ use Rattle.store.specs.Layout.{Store, links_of, clock_of}
 use Rattle.store.proofs.Laws.Sound.{is_sound}
 use Rattle.checks.specs.Checks.{first_failed}
 use Rattle.checks.proofs.Laws.{all_passed}
-use Rattle.slot_rules.specs.declared.Turn.TheVariants.{Ran, Refused}
 use Rattle.slot_rules.specs.Pick.{pick_of}
 use Rattle.slot_rules.specs.Slot.{Send, send_from, sends_to, moved, slot_checks, slot_turn}
 use Rattle.slot_keeps.proofs.After.{clock_after}
@@ -40,23 +41,23 @@ to_linked w n (suc m) h =
 
 module _ {links : List ℕ} {w : Store} {h : List Event} (i : Invariant links w h) (size : ℕ) where
   -- the three ways
-  runs : clock_of w < end_slot → ltb (clock_of w) end_slot ≡ true → leb (5 * links_of w) size ≡ true → slot_turn w size ≡ Ran
+  runs : clock_of w < end_slot → ltb (clock_of w) end_slot ≡ true → leb (5 * links_of w) size ≡ true → slot_turn w size ≡ Ok tt
   unfolding slot_turn
   runs now e f =
-      all_passed Refused (slot_checks w size) Ran (
+      all_passed Err (slot_checks w size) (Ok tt) (
         is_sound w i.seen.sound,
         (e, (f, (is_sound (moved w) (sound_after i.seen i.steady i.near now), tt))),
       )
 
-  at_end : ltb (clock_of w) end_slot ≡ false → slot_turn w size ≡ Refused 14 0
+  at_end : ltb (clock_of w) end_slot ≡ false → slot_turn w size ≡ Err EndSlot
   unfolding slot_turn first_failed
   at_end e = rw (is_sound w i.seen.sound, e)
 
-  no_room : ltb (clock_of w) end_slot ≡ true → leb (5 * links_of w) size ≡ false → slot_turn w size ≡ Refused 15 0
+  no_room : ltb (clock_of w) end_slot ≡ true → leb (5 * links_of w) size ≡ false → slot_turn w size ≡ Err OutShort
   unfolding slot_turn first_failed
   no_room e f = rw (is_sound w i.seen.sound, e, f)
 
-  ran : clock_of w < end_slot → 5 * links_of w ≤ size → slot_turn w size ≡ Ran → Runs ours links w h size
+  ran : clock_of w < end_slot → 5 * links_of w ≤ size → slot_turn w size ≡ Ok tt → Runs ours links w h size
   ran now wide e = record {
     before = now;
     room = omega (arith, wide, i.network.links_are);

@@ -1,30 +1,27 @@
 -- The calls of any library on our store, and what happens in them.
+use Rattle.std.specs.declared.result.Result.{Result}
+use Rattle.std.specs.declared.result.Result.TheVariants.{Ok, Err}
+use Rattle.kinds.specs.declared.Refusal.{Refusal}
+use Rattle.offer_rules.specs.declared.Accepted.{Accepted}
 use Rattle.std.specs.Prelude.{ℕ, ◌≡◌, List, [], ◌∷◌, ◌++◌, map}
 use Rattle.store.specs.Layout.{Store}
-use Rattle.setup.specs.declared.SetUp.{SetUp}
-use Rattle.setup.specs.declared.SetUp.TheVariants.{Ready}
-use Rattle.open_rules.specs.declared.Outcome.{Outcome}
-use Rattle.open_rules.specs.declared.Outcome.TheVariants.{Accepted as Opened, Refused as NotOpened}
 use Rattle.open_rules.specs.declared.Opening.{Opening}
 use Rattle.open_rules.specs.Request.{Request}
-use Rattle.offer_rules.specs.declared.Offered.{Offered}
-use Rattle.offer_rules.specs.declared.Offered.TheVariants.{Accepted, Refused}
-use Rattle.slot_rules.specs.declared.Waited.{Waited}
 use Rattle.slot_rules.specs.Slot.{Send}
 
 -- a library: what each call on a store answers, and the store that it leaves
 pub record Library : Type 0 where
-  pub set_up_answer : Store → (links : List ℕ) → SetUp
+  pub set_up_answer : Store → (links : List ℕ) → Result (Unit {0}) Refusal
   pub set_up_store : Store → (links : List ℕ) → Store
   pub open_answer : Store → Request → Opening
   pub open_store : Store → Request → Store
-  pub offer_answer : Store → (channel packets : ℕ) → Offered
+  pub offer_answer : Store → (channel packets : ℕ) → Result Accepted Refusal
   pub offer_store : Store → (channel packets : ℕ) → Store
   pub slot_number : Store → (size : ℕ) → ℕ
   pub slot_sent : Store → (size : ℕ) → List Send
   pub slot_store : Store → (size : ℕ) → Store
-  pub idle_answer : Store → Waited
-  pub skip_answer : Store → (slots : ℕ) → Waited
+  pub idle_answer : Store → Result ℕ Refusal
+  pub skip_answer : Store → (slots : ℕ) → Result ℕ Refusal
   pub skip_store : Store → (slots : ℕ) → Store
 
 -- the calls after set-up that write a store, with any arguments; `size` is the length of the output that is lent to a slot
@@ -41,13 +38,13 @@ pub data Event : Type 0 where
   sent : Send → Event
 
 -- what happens in an open or an offer: nothing if it is refused, but a refused call is a call too
-unfoldable pub open_events : Outcome → Request → Opening → List Event
-open_events (Opened channel) q answer = opened channel q answer ∷ []
-open_events (NotOpened number place) q answer = []
+unfoldable pub open_events : Result ℕ Refusal → Request → Opening → List Event
+open_events (Ok channel) q answer = opened channel q answer ∷ []
+open_events (Err refusal) q answer = []
 
-unfoldable pub offer_events : Offered → (channel packets : ℕ) → List Event
-offer_events (Accepted message logical) x packets = accepted x message logical packets ∷ []
-offer_events (Refused number place) x packets = []
+unfoldable pub offer_events : Result Accepted Refusal → (channel packets : ℕ) → List Event
+offer_events (Ok a) x packets = accepted x a.message a.time packets ∷ []
+offer_events (Err refusal) x packets = []
 
 module _ (lib : Library) where
   -- the store that a call leaves, and what happens in it
@@ -66,6 +63,6 @@ module _ (lib : Library) where
   -- The stores that are reached from set-up, of any lent store with links that it takes, by any calls in any order, each with all
   -- that has happened on the way.
   pub data Reached (links : List ℕ) : Store → List Event → Type 0 where
-    fresh : (w : Store) → lib.set_up_answer w links ≡ Ready → Reached links (lib.set_up_store w links) []
+    fresh : (w : Store) → lib.set_up_answer w links ≡ Ok tt → Reached links (lib.set_up_store w links) []
     next : (w : Store) (h : List Event) → Reached links w h → (call : Call)
         → Reached links (store_after call w) (h ++ events_in call w)

@@ -2,6 +2,11 @@
 -- than was reserved, every accepted message arrives whole, in order, in time." And document 01: "On a store reached from set-up
 -- the other calls never give 17." This file says what is promised, over what has happened: requests, answers, sends, and the
 -- clock; and that the store says the same. That our library keeps it is `promise` in proofs/Promise.antt.
+use Rattle.std.specs.declared.result.Result.{Result}
+use Rattle.std.specs.declared.result.Result.TheVariants.{Ok, Err}
+use Rattle.kinds.specs.declared.Refusal.{Refusal}
+use Rattle.kinds.specs.declared.Refusal.TheVariants.{MessageLength, Burst, EndSlot, NotSound}
+use Rattle.offer_rules.specs.declared.Accepted.{Accepted}
 use Rattle.std.specs.Prelude.{ℕ, zero, suc, ◌+◌, ◌-◌, ◌*◌, ◌≤◌, ◌<◌, max, ◌≡◌, Bool, ◌⊎◌, List, [], ◌∷◌, map, eqb, leb, ltb, length, take}
 use Rattle.kinds.specs.Ranges.{within, end_slot}
 use Rattle.store.specs.Layout.{Store, number_at, links_of, clock_of, from_of, to_of, horizon_of, buffer_of, rows_of, c_of, p_of, d_of, b_of}
@@ -11,14 +16,8 @@ use Rattle.store.specs.Amounts.{reserved_of}
 use Rattle.store.specs.Sound.{row_reserved_of}
 use Rattle.checks.specs.Checks.{check, first_failed}
 use Rattle.setup_list.specs.List.{links_in, from_in, to_in, horizon_in, buffer_in}
-use Rattle.setup.specs.declared.SetUp.TheVariants.{Ready}
-use Rattle.open_rules.specs.declared.Outcome.TheVariants.{Accepted as Opened, Refused as NotOpened}
 use Rattle.open_rules.specs.declared.Opening.{Opening}
 use Rattle.open_rules.specs.Request.{Request, hops, link}
-use Rattle.offer_rules.specs.declared.Offered.{Offered}
-use Rattle.offer_rules.specs.declared.Offered.TheVariants.{Accepted, Refused}
-use Rattle.slot_rules.specs.declared.Waited.{Waited}
-use Rattle.slot_rules.specs.declared.Waited.TheVariants.{Slots as Waiting, Refused as NotWaiting}
 use Rattle.slot_rules.specs.Slot.{Send}
 use Rattle.schedule.specs.Lists.{Every, ◌∈◌}
 use Rattle.promise_queue.specs.Keep.{keep}
@@ -153,9 +152,9 @@ module _ (lib : Library) (links : List ℕ) (w : Store) (h : List Event) where
   slots_run (suc n) = lib.slot_store (slots_run n) (5 * links_in links)
 
   -- The answer to a wait is so many slots, each of which runs and sends nothing; or 14, at the end slot.
-  pub record Rests (answer : Waited) : Type 0 where
+  pub record Rests (answer : Result ℕ Refusal) : Type 0 where
     pub count : ℕ
-    pub told : (answer ≡ Waiting count) ⊎ ((end_slot ≤ clock_of w) × (answer ≡ NotWaiting 14 0))
+    pub told : (answer ≡ Ok count) ⊎ ((end_slot ≤ clock_of w) × (answer ≡ Err EndSlot))
     pub runs : (n : ℕ) → n < count → lib.slot_number (slots_run n) (5 * links_in links) ≡ 0
     pub silent : (n : ℕ) → n < count → lib.slot_sent (slots_run n) (5 * links_in links) ≡ []
 
@@ -167,15 +166,15 @@ module _ (lib : Library) (links : List ℕ) (w : Store) (h : List Event) where
 
   -- 8. 17 is never given, whatever is asked
   abbrev pub Never17 : Type 0
-  Never17 = ((q : Request) (place : ℕ) → (lib.open_answer w q).outcome ≡ NotOpened 17 place → ⊥)
-      × ((x packets place : ℕ) → lib.offer_answer w x packets ≡ Refused 17 place → ⊥)
+  Never17 = ((q : Request) → (lib.open_answer w q).outcome ≡ Err NotSound → ⊥)
+      × ((x packets : ℕ) → lib.offer_answer w x packets ≡ Err NotSound → ⊥)
       × ((size : ℕ) → lib.slot_number w size ≡ 17 → ⊥)
-      × ((place : ℕ) → lib.idle_answer w ≡ NotWaiting 17 place → ⊥)
-      × ((slots place : ℕ) → lib.skip_answer w slots ≡ NotWaiting 17 place → ⊥)
+      × (lib.idle_answer w ≡ Err NotSound → ⊥)
+      × ((slots : ℕ) → lib.skip_answer w slots ≡ Err NotSound → ⊥)
 
   -- 9. A channel that is opened gets a number that none has.
   abbrev pub NewNumber : Type 0
-  NewNumber = (q : Request) (x : ℕ) → (lib.open_answer w q).outcome ≡ Opened x → WasOpened h x → ⊥
+  NewNumber = (q : Request) (x : ℕ) → (lib.open_answer w q).outcome ≡ Ok x → WasOpened h x → ⊥
 
 -- 10. "whether a message is accepted, and its logical time, depends only on that channel's numbers, its own accepted messages,
 -- the packets offered and the present slot": the answer to an offer is this function of them. `times` are the logical times of
@@ -185,12 +184,12 @@ own_time p now [] = now
 own_time p now (last ∷ []) = max now (last + p)
 own_time p now (time ∷ (then ∷ times)) = own_time p now (then ∷ times)
 
-unfoldable pub own_answer : (q : Request) → (times : List ℕ) → (packets now : ℕ) → Offered
+unfoldable pub own_answer : (q : Request) → (times : List ℕ) → (packets now : ℕ) → Result Accepted Refusal
 own_answer q times packets now =
-    first_failed Refused
-    (check 14 (ltb now end_slot)
-    ∷ (check 12 (within 1 q.c packets) ∷ (check 13 (leb (own_time q.p now times - now) ((q.b - 1) * q.p)) ∷ [])))
-    (Accepted (length times) (own_time q.p now times))
+    first_failed Err
+    (check EndSlot (ltb now end_slot)
+    ∷ (check MessageLength (within 1 q.c packets) ∷ (check Burst (leb (own_time q.p now times - now) ((q.b - 1) * q.p)) ∷ [])))
+    (Ok (record { message = length times; time = own_time q.p now times }))
 
 abbrev pub OwnRule : Library → Store → List Event → Type 0
 OwnRule lib w h = (x : ℕ) (o : WasOpened h x) (packets : ℕ)
@@ -257,5 +256,5 @@ pub record Promise (lib : Library) (links : List ℕ) (w : Store) (h : List Even
 
 -- A library keeps the promise: a fresh network is in slot 0, and all of it holds of every store that is reached.
 pub record Keeps (lib : Library) : Type 0 where
-  pub starts : (w : Store) (links : List ℕ) → lib.set_up_answer w links ≡ Ready → clock_of (lib.set_up_store w links) ≡ 0
+  pub starts : (w : Store) (links : List ℕ) → lib.set_up_answer w links ≡ Ok tt → clock_of (lib.set_up_store w links) ≡ 0
   pub holds : (links : List ℕ) (w : Store) (h : List Event) → Reached lib links w h → Promise lib links w h

@@ -5,13 +5,13 @@ use mathlib.Core.Path.{◌≡◌}
 use mathlib.Core.List.{[]}
 use native.Mathlib.Omega.{arith}
 use lib.ListN.{length}
+use Rattle.std.specs.declared.result.Result.TheVariants.{Ok}
 use Rattle.schedule.specs.Messages.{Message}
 use Rattle.store.specs.Layout.{Store, channels_of, clock_of, IsChannel}
 use Rattle.folds.proofs.Folds.{sum_same}
 use Rattle.store.proofs.Laws.Few.{few_places}
 use Rattle.store_same.proofs.Same.{sent_same}
 use Rattle.store_same.proofs.Numbers.{SameNumbers}
-use Rattle.open_rules.specs.declared.Outcome.TheVariants.{Accepted}
 use Rattle.open_rules.specs.Request.{Request, hops}
 use Rattle.open_rules.specs.Refusal.{delays_of}
 use Rattle.open_rules.specs.Open.{open_outcome, open_store}
@@ -25,7 +25,7 @@ use Rattle.promise_view.proofs.Seen.{Seen, NearAt, Near, InBurstAt, InBurst, Wit
 use Rattle.promise_view.proofs.Bounds.{within_same, burst_same, near_same}
 use Rattle.promise_open.proofs.Granted.{open_kept, open_numbers}
 
-module _ {w : Store} {all : AllAccepted} (s : Seen w all) (q : Request) (n : ℕ) (a : open_outcome w q ≡ Accepted n) where
+module _ {w : Store} {all : AllAccepted} (s : Seen w all) (q : Request) (n : ℕ) (a : open_outcome w q ≡ Ok n) where
   abbrev w' : Store
   w' = open_store w q
 

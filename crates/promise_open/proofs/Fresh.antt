@@ -4,13 +4,13 @@ use mathlib.Core.Path.{◌≡◌, refl, ◌∙◌}
 use mathlib.Core.List.{List, []}
 use native.Mathlib.Decide.{dec_lt}
 use native.Mathlib.Omega.{arith}
+use Rattle.std.specs.declared.result.Result.TheVariants.{Ok}
 use Rattle.schedule.specs.Feasible.{Table}
 use Rattle.schedule.proofs.Network.{set_up}
 use Rattle.store.specs.Layout.{Store, links_of, channels_of, clock_of, rows_of}
 use Rattle.store.proofs.Laws.Sound.{Sound}
 use Rattle.open_rules.specs.Search.{rows_to, table_of}
 use Rattle.setup_fresh.proofs.Laws.Fresh as laws
-use Rattle.setup.specs.declared.SetUp.TheVariants.{Ready}
 use Rattle.setup.specs.SetUp.{set_up_answer, set_up_store}
 use Rattle.setup.proofs.Laws.Answer.{ready_accepted, ready_store}
 use Rattle.setup.proofs.Laws.Sound.{fresh_sound}
@@ -22,7 +22,7 @@ use Rattle.promise_view.proofs.Keys.{keys_are, no_keys}
 abbrev pub none : Accepted
 none x = []
 
-module _ (w : Store) (links : List ℕ) (e : set_up_answer w links ≡ Ready) where
+module _ (w : Store) (links : List ℕ) (e : set_up_answer w links ≡ Ok tt) where
   abbrev w₀ : Store
   w₀ = set_up_store w links
 

@@ -3,12 +3,13 @@
 use Prim.Native.Nat.{ℕ, suc, ◌≤◌, ◌<◌}
 use mathlib.Core.Path.{◌≡◌, refl, sym, ◌∙◌, subst}
 use native.Mathlib.Numerals.{add-one}
+use Rattle.std.specs.declared.result.Result.TheVariants.{Ok, Err}
+use Rattle.kinds.specs.declared.Refusal.{Refusal}
 use Rattle.kinds.specs.Ranges.{most_hops}
 use Rattle.store.specs.Layout.{Store, channels_of, c_of, p_of, d_of, b_of, hops_of, route_of, delay_of, sent_of, IsChannel}
 use Rattle.store.specs.Amounts.{reserved_of}
 use Rattle.store_same.proofs.Same.{SameNetwork, SameRecord}
 use Rattle.store_same.proofs.Numbers.{SameNumbers, kept_numbers}
-use Rattle.open_rules.specs.declared.Outcome.TheVariants.{Accepted, Refused}
 use Rattle.open_rules.specs.Request.{Request, hops, link}
 use Rattle.open_rules.specs.Refusal.{delays_of, reserved_for}
 use Rattle.open_rules.specs.Open.{open_outcome, open_store}
@@ -33,7 +34,7 @@ pub record Granted (w : Store) (q : Request) (n : ℕ) : Type 0 where
   pub reserved_is : (j : ℕ) → j < hops q → reserved_of (open_store w q) n j ≡ reserved_for w q j
   pub sent_is : (j : ℕ) → j < hops q → sent_of (open_store w q) n j ≡ 0
 
-module _ {w : Store} (q : Request) (n : ℕ) (a : open_outcome w q ≡ Accepted n) where
+module _ {w : Store} (q : Request) (n : ℕ) (a : open_outcome w q ≡ Ok n) where
   -- as crate `open_keeps` has it
   pub open_kept : Opened w (open_store w q) q (delays_of w q)
   open_kept = record { early = accepted_early w q n a; after = accepted_after w q n a }
@@ -63,6 +64,6 @@ module _ {w : Store} (q : Request) (n : ℕ) (a : open_outcome w q ≡ Accepted 
       })
 
 -- "Nothing stored changes" on a refusal
-pub refused_store : (w : Store) (q : Request) (number place : ℕ) → open_outcome w q ≡ Refused number place → open_store w q ≡ w
+pub refused_store : (w : Store) (q : Request) (refusal : Refusal) → open_outcome w q ≡ Err refusal → open_store w q ≡ w
 unfolding open_store
-refused_store w q number place e = rw (e, open_store)
+refused_store w q refusal e = rw (e, open_store)

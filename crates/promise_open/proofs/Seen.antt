@@ -3,11 +3,11 @@ use Prim.Native.Nat.{ℕ, ◌<◌}
 use mathlib.Core.Path.{◌≡◌}
 use mathlib.Core.List.{[]}
 use native.Mathlib.Omega.{arith}
+use Rattle.std.specs.declared.result.Result.TheVariants.{Ok}
 use Rattle.schedule.specs.Feasible.{Table}
 use Rattle.schedule.specs.Messages.{ended}
 use Rattle.store.specs.Layout.{Store, links_of, channels_of, messages_of, end_of, IsChannel}
 use Rattle.store.proofs.Laws.Sound.{sound_is}
-use Rattle.open_rules.specs.declared.Outcome.TheVariants.{Accepted}
 use Rattle.open_rules.specs.Request.{Request}
 use Rattle.open_rules.specs.Search.{table_of}
 use Rattle.open_rules.specs.Refusal.{delays_of}
@@ -31,7 +31,7 @@ told_none w x m e = record {
   end = λ n h i. let z : n ≡ 0 = omega arith in rw (z, e);
 }
 
-module _ {w : Store} {all : AllAccepted} (s : Seen w all) (q : Request) (n : ℕ) (a : open_outcome w q ≡ Accepted n) where
+module _ {w : Store} {all : AllAccepted} (s : Seen w all) (q : Request) (n : ℕ) (a : open_outcome w q ≡ Ok n) where
   abbrev w' : Store
   w' = open_store w q
 

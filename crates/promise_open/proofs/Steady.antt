@@ -4,6 +4,7 @@ use mathlib.Core.Path.{◌≡◌, ◌∙◌, sym}
 use mathlib.Core.List.{[]}
 use native.Mathlib.Decide.{dec_lt}
 use native.Mathlib.Omega.{arith}
+use Rattle.std.specs.declared.result.Result.TheVariants.{Ok}
 use Rattle.kinds.specs.Ranges.{most_hops}
 use Rattle.schedule.specs.Feasible.{Apart}
 use Rattle.schedule.specs.Link.{J}
@@ -13,7 +14,6 @@ use Rattle.schedule.proofs.Link.{join_kept}
 use Rattle.store.specs.Layout.{Store, links_of, channels_of, clock_of}
 use Rattle.store.proofs.Laws.Few.{few_places}
 use Rattle.store_same.proofs.Same.{sent_same}
-use Rattle.open_rules.specs.declared.Outcome.TheVariants.{Accepted}
 use Rattle.open_rules.specs.Request.{Request, hops, link}
 use Rattle.open_rules.specs.Refusal.{delays_of}
 use Rattle.open_rules.specs.Open.{open_outcome, open_store}
@@ -27,7 +27,7 @@ use Rattle.promise_view.proofs.Same.{link_same}
 use Rattle.promise_open.proofs.Granted.{open_kept, open_numbers}
 use Rattle.promise_open.proofs.Keys.{PutIn, away_keys, route_keys}
 
-module _ {w : Store} {all : AllAccepted} (s : Seen w all) (q : Request) (n : ℕ) (a : open_outcome w q ≡ Accepted n) where
+module _ {w : Store} {all : AllAccepted} (s : Seen w all) (q : Request) (n : ℕ) (a : open_outcome w q ≡ Ok n) where
   abbrev w' : Store
   w' = open_store w q
 

@@ -1,12 +1,13 @@
 -- A test that can be run: the promise is broken after these calls.
+use Rattle.std.specs.declared.result.Result.{Result}
+use Rattle.std.specs.declared.result.Result.TheVariants.{Ok, Err}
+use Rattle.kinds.specs.declared.Refusal.{Refusal}
 use Rattle.std.specs.Prelude.{ℕ, suc, ◌*◌, Bool, true, false, ◌&&◌, not, ◌||◌, List, [], ◌∷◌, ◌++◌, refl, eqb, leb, ltb, length, replicate}
 use mathlib.Core.List.Memᴰ
 use Rattle.kinds.specs.Ranges.{end_slot}
 use Rattle.folds.specs.Folds.{some}
 use Rattle.store.specs.Layout.{Store, store_length, clock_of}
 use Rattle.setup_list.specs.List.{links_in}
-use Rattle.setup.specs.declared.SetUp.{SetUp}
-use Rattle.setup.specs.declared.SetUp.TheVariants.{Ready, Refused}
 use Rattle.schedule.specs.Lists.{◌∈◌}
 use Rattle.promise_queue.specs.Keep.{keep}
 use Rattle.promise.specs.Calls.{Library, Call, Event, store_after, events_in}
@@ -19,9 +20,9 @@ pub record State : Type 0 where
   pub store : Store
   pub events : List Event
 
-abbrev pub is_ready : SetUp → Bool
-is_ready Ready = true
-is_ready (Refused number place) = false
+abbrev pub is_ready : Result (Unit {0}) Refusal → Bool
+is_ready (Ok ready) = true
+is_ready (Err refusal) = false
 
 -- a packet at place j is late at clock t: one is held whose deadline there has passed
 unfoldable pub any_late : {h : List Event} {x : ℕ} (o : WasOpened h x) (t j : ℕ) → List Packet → Bool

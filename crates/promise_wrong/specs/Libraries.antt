@@ -1,19 +1,18 @@
 -- Libraries that are wrong in one call, an open or a slot. Document 01 names three: "one that accepts all", "a slot that sends
 -- nothing", "one that sends in slot 0 and then only moves the clock"; two more stand beside them.
+use Rattle.std.specs.declared.result.Result.{Result}
+use Rattle.std.specs.declared.result.Result.TheVariants.{Ok, Err}
+use Rattle.kinds.specs.declared.Refusal.{Refusal}
 use Rattle.std.specs.Prelude.{ℕ, zero, suc, ◌+◌, true, false, List, [], ◌∷◌, ◌++◌, eqb, replicate}
 use Rattle.store.specs.Layout.{Store, links_of, channels_of, clock_of, rows_of, row_channel_of, row_place_of, sent_of, with_channels}
 use Rattle.store.specs.Layout.{with_clock}
 use Rattle.store.specs.Layout.{with_sent}
 use Rattle.store.specs.Amounts.{reserved_along}
-use Rattle.open_rules.specs.declared.Outcome.{Outcome}
-use Rattle.open_rules.specs.declared.Outcome.TheVariants.{Accepted, Refused}
 use Rattle.open_rules.specs.declared.Opening.{Opening}
 use Rattle.open_rules.specs.Request.{Request, hops, link}
 use Rattle.open_rules.specs.Shares.{eight}
 use Rattle.open_rules.specs.Join.{channel_written, rows_joined}
 use Rattle.open_rules.specs.Open.{open_outcome, open_answer, open_store}
-use Rattle.slot_rules.specs.declared.Turn.{Turn}
-use Rattle.slot_rules.specs.declared.Turn.TheVariants.{Ran, Refused as NotRun}
 use Rattle.slot_rules.specs.Pick.{row_held}
 use Rattle.slot_rules.specs.Slot.{Send, send_at, slot_turn, slot_sent, slot_store, moved_to}
 use Rattle.promise.specs.Calls.{Library}
@@ -41,9 +40,9 @@ abbrev with_slot : (sends : Store → (size : ℕ) → List Send) → (moved : S
 with_slot = with_calls open_answer open_store
 
 -- a slot that runs only moves the clock
-abbrev only_clock : Turn → Store → Store
-only_clock Ran w = with_clock w (clock_of w + 1)
-only_clock (NotRun number place) w = w
+abbrev only_clock : Result (Unit {0}) Refusal → Store → Store
+only_clock (Ok ran) w = with_clock w (clock_of w + 1)
+only_clock (Err refusal) w = w
 
 -- "a slot that sends nothing"
 abbrev pub sends_nothing : Library
@@ -56,9 +55,9 @@ sends_in_slot0 = with_slot
     (λ w size. elim (eqb (clock_of w) 0) [ true ↦ slot_store w size | false ↦ only_clock (slot_turn w size) w ])
 
 -- a clock that stands: packets move on, and it stays the same slot
-abbrev only_packets : Turn → Store → Store
-only_packets Ran w = moved_to w (links_of w)
-only_packets (NotRun number place) w = w
+abbrev only_packets : Result (Unit {0}) Refusal → Store → Store
+only_packets (Ok ran) w = moved_to w (links_of w)
+only_packets (Err refusal) w = w
 
 abbrev pub clock_stands : Library
 clock_stands = with_slot slot_sent (λ w size. only_packets (slot_turn w size) w)
@@ -87,30 +86,30 @@ unfoldable pub all_moved : Store → (n : ℕ) → Store
 all_moved w zero = w
 all_moved w (suc l) = rows_moved w l (rows_of w l) (all_moved w l)
 
-abbrev sends_on : Turn → Store → List Send
-sends_on Ran w = all_sent w (links_of w)
-sends_on (NotRun number place) w = []
+abbrev sends_on : Result (Unit {0}) Refusal → Store → List Send
+sends_on (Ok ran) w = all_sent w (links_of w)
+sends_on (Err refusal) w = []
 
-abbrev store_on : Turn → Store → Store
-store_on Ran w = with_clock (all_moved w (links_of w)) (clock_of w + 1)
-store_on (NotRun number place) w = w
+abbrev store_on : Result (Unit {0}) Refusal → Store → Store
+store_on (Ok ran) w = with_clock (all_moved w (links_of w)) (clock_of w + 1)
+store_on (Err refusal) w = w
 
 abbrev pub sends_all_at_once : Library
 sends_all_at_once = with_slot (λ w size. sends_on (slot_turn w size) w) (λ w size. store_on (slot_turn w size) w)
 
 -- "one that accepts all": where ours refuses, the channel gets p as its delay on every link
-abbrev any_answer : Outcome → Store → Request → Opening
-any_answer (Accepted channel) w q = open_answer w q
-any_answer (Refused number place) w q = record {
-  outcome = Accepted (channels_of w);
+abbrev any_answer : Result ℕ Refusal → Store → Request → Opening
+any_answer (Ok channel) w q = open_answer w q
+any_answer (Err refusal) w q = record {
+  outcome = Ok (channels_of w);
   responses = replicate 8 0;
   delays = eight (λ j. q.p) (hops q);
   reserved = eight (reserved_along w q.c q.p q.b (link q) (λ j. q.p)) (hops q);
 }
 
-abbrev any_store : Outcome → Store → Request → Store
-any_store (Accepted channel) w q = open_store w q
-any_store (Refused number place) w q =
+abbrev any_store : Result ℕ Refusal → Store → Request → Store
+any_store (Ok channel) w q = open_store w q
+any_store (Err refusal) w q =
     with_channels (rows_joined (channel_written w (channels_of w) q (λ j. q.p)) (channels_of w) (hops q)) (channels_of w + 1)
 
 abbrev pub accepts_all : Library
