@@ -5,6 +5,7 @@
 #![tactic(auto)]
 
 ghost use Rattle.std.specs.Prelude.{◌≡◌, length};
+ghost use Rattle.kinds.specs.Refusals.{number_of, place_of};
 ghost use Rattle.open_rules.specs.Open.{open_answer, open_store, values_of as open_values};
 ghost use Rattle.store.specs.Sound.{sound_of};
 ghost use Rattle.setup.specs.SetUp.{set_up_answer, set_up_store, values_of as set_up_values};
@@ -13,12 +14,16 @@ ghost use Rattle.offer_rules.specs.Offer.{offer_answer, offer_store, values_of a
 ghost use Rattle.slot_rules.specs.Slot.{slot_number, slot_place, slot_sent, slot_store, slot_out};
 ghost use Rattle.slot_rules.specs.Idle.{idle_answer, skip_answer, skip_store, values_of as waited_values};
 
-use kinds::Route;
-use offer_rules::Offered;
-use open_rules::Outcome;
-use response::{Answer, Reply};
-use setup::SetUp;
-use slot_rules::Waited;
+use kinds::{Refusal, Route};
+
+// The place of a refusal goes where it is lent, and its number back.
+fn refused(refusal: Refusal, place: &mut u64) -> u64
+    ensures value { result ≡ number_of refusal }
+    ensures place_after { place.new ≡ place_of refusal }
+{
+    *place = refusal.place();
+    refusal.number()
+}
 
 // The response-time calculation by itself. `table` has C, p and delay of each row in turn, highest priority first.
 pub fn byanghosu_response(
@@ -37,26 +42,14 @@ pub fn byanghosu_response(
     }
         ≡ values_of (alone_on table.now own limit) response.old trials.old }
 {
-    let reply = response::response_alone(table, own, limit);
-    match reply {
-        Reply::Answered(answer) => {
+    match response::response_alone(table, own, limit) {
+        Ok(answer) => {
+            *response = answer.response.unwrap_or(0);
+            *trials = answer.trials;
             *place = 0;
-            match answer {
-                Answer::Found(r, k) => {
-                    *response = r;
-                    *trials = k;
-                }
-                Answer::Nothing(k) => {
-                    *response = 0;
-                    *trials = k;
-                }
-            }
             0
         }
-        Reply::Refused(refusal, at) => {
-            *place = at;
-            refusal
-        }
+        Err(refusal) => refused(refusal, place),
     }
 }
 
@@ -66,16 +59,12 @@ pub fn byanghosu_set_up(store: &mut [u64], links: &[u64], place: &mut u64) -> u6
         ≡ set_up_values (set_up_answer store.old links.now) }
     ensures store_after { store.new ≡ set_up_store store.old links.now }
 {
-    let answer = setup::set_up(store, links);
-    match answer {
-        SetUp::Ready => {
+    match setup::set_up(store, links) {
+        Ok(()) => {
             *place = 0;
             0
         }
-        SetUp::Refused(number, link) => {
-            *place = link;
-            number
-        }
+        Err(refusal) => refused(refusal, place),
     }
 }
 
@@ -108,23 +97,16 @@ pub fn byanghosu_open(
         (record { c = c; p = p; d = d; b = b; route = route.now }) }
 {
     let opening = open::open(store, c, p, d, b, route);
-    let outcome = opening.outcome;
-    let r = opening.responses;
-    *responses = r;
-    let given = opening.delays;
-    *delays = given;
-    let packets = opening.reserved;
-    *reserved = packets;
-    match outcome {
-        Outcome::Accepted(x) => {
-            *channel = x;
+    *responses = opening.responses;
+    *delays = opening.delays;
+    *reserved = opening.reserved;
+    match opening.outcome {
+        Ok(number) => {
+            *channel = number;
             *place = 0;
             0
         }
-        Outcome::Refused(why, hop) => {
-            *place = hop;
-            why
-        }
+        Err(why) => refused(why, place),
     }
 }
 
@@ -146,18 +128,14 @@ pub fn byanghosu_offer(
         ≡ offer_values (offer_answer store.old channel packets) message.old logical.old }
     ensures store_after { store.new ≡ offer_store store.old channel packets }
 {
-    let offered = offer::offer(store, channel, packets);
-    match offered {
-        Offered::Accepted(n, time) => {
-            *message = n;
-            *logical = time;
+    match offer::offer(store, channel, packets) {
+        Ok(accepted) => {
+            *message = accepted.message;
+            *logical = accepted.time;
             *place = 0;
             0
         }
-        Offered::Refused(cause, at) => {
-            *place = at;
-            cause
-        }
+        Err(refusal) => refused(refusal, place),
     }
 }
 
@@ -179,20 +157,17 @@ pub fn byanghosu_slot(
 }
 
 // What a wait answers, as numbers: `slots` takes how many slots where it is not refused.
-fn told(waited: Waited, slots: &mut u64, place: &mut u64) -> u64
+fn told(waited: Result<u64, Refusal>, slots: &mut u64, place: &mut u64) -> u64
     ensures { record { number = result; place = place.new; slots = slots.new }
         ≡ waited_values waited slots.old }
 {
     match waited {
-        Waited::Slots(count) => {
+        Ok(count) => {
             *slots = count;
             *place = 0;
             0
         }
-        Waited::Refused(number, at) => {
-            *place = at;
-            number
-        }
+        Err(refusal) => refused(refusal, place),
     }
 }
 
@@ -201,8 +176,7 @@ pub fn byanghosu_idle(store: &[u64], slots: &mut u64, place: &mut u64) -> u64
     ensures { record { number = result; place = place.new; slots = slots.new }
         ≡ waited_values (idle_answer store.now) slots.old }
 {
-    let waited = slot_wait::idle(store);
-    told(waited, slots, place)
+    told(slot_wait::idle(store), slots, place)
 }
 
 // Moves the clock on over such slots, `n` of them or as many as there are; `slots` takes how many.
@@ -211,8 +185,7 @@ pub fn byanghosu_skip(store: &mut [u64], n: u64, slots: &mut u64, place: &mut u6
         ≡ waited_values (skip_answer store.old n) slots.old }
     ensures store_after { store.new ≡ skip_store store.old n }
 {
-    let waited = slot_wait::skip(store, n);
-    told(waited, slots, place)
+    told(slot_wait::skip(store, n), slots, place)
 }
 
 // Whether a store is sound. Every other call asks this by itself.
