@@ -28,8 +28,8 @@ never_17 {w} s on near size e =
     let checks = slot_checks w size in
     let front = clear_passed Err refused_same NotSound (take 3 checks) _
     ((λ _. is_sound w s.sound), clear_other NotSound (drop 1 (take 3 checks)) refl)
-    (sym (failed_append Err (take 3 checks) (drop 3 checks) (Ok tt)) ∙ e) in
+    (sym (failed_append Err (take 3 checks) (drop 3 checks) (Ok (tt {0}))) ∙ e) in
     let clock : clock_of w < end_slot = ltb-true (clock_of w) end_slot front.0.1.0 in
-    let passed = all_passed Err (drop 3 checks) (Ok tt) (is_sound (moved w) (sound_after s on near clock), tt) in
+    let passed = all_passed Err (drop 3 checks) (Ok (tt {0})) (is_sound (moved w) (sound_after s on near clock), tt) in
     let z : ◌≡◌ {A = ℕ} 0 1 = cc (passed, front.1) in
     omega arith
