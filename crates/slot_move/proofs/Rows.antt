@@ -1,68 +1,85 @@
--- The row that a link picked, as the code reads it: position p of the picks; channel x, place j.
-use Prim.Native.Nat.{ℕ, suc, ◌-◌, ◌≤◌, ◌<◌}
-use mathlib.Core.Path.{◌≡◌, sym, ◌∙◌}
-use mathlib.Core.Bool.{true}
-use mathlib.Core.List.{List}
+-- The row k that link l picked: its place can be read, and the packet that goes next there is one of a message.
+use Rattle.std.proofs.Common.{ℕ, zero, suc, ◌-◌, ◌≤◌, ◌<◌, ◌≡◌, true, refl, sym, ◌∙◌, arith, get_or, List}
 use native.Mathlib.Nat.{mul-le-mul}
-use native.Mathlib.Omega.{arith}
-use Rattle.kinds.specs.Ranges.{most_links, most_rows, most_channels, most_hops, most_number}
-use Rattle.store.specs.Layout.{Store, Long, ring, number_at, links_of, row_channel_of, row_place_of, messages_of, sent_of}
+use Rattle.std.specs.declared.option.Option.{Option}
+use Rattle.std.specs.declared.option.Option.TheVariants.{None, Some}
+use Rattle.kinds.specs.Ranges.{most_rows, most_channels, most_hops, most_number}
+use Rattle.store.specs.Layout.{Store, ring, links_of, row_channel_of, row_place_of, messages_of, sent_of, end_of}
 use Rattle.store.specs.Sound.{sound_of}
-use Rattle.store.proofs.Laws.Sound.{ChannelIs, Sound, sound_is}
-use Rattle.store.proofs.Laws.Rows.{row_there, place_ready}
+use Rattle.store.proofs.Laws.Sound.{ChannelIs, sound_is}
 use Rattle.slot_rules.specs.Head.{message_of}
-use Rattle.slot_rules.specs.Pick.{pick_of}
+use Rattle.slot_rules.specs.Pick.{pick_of, row_of}
 use Rattle.slot_rules.proofs.Laws.Head.{MessageIs, message_is, entered_most}
 use Rattle.slot_rules.proofs.Laws.Pick.{picked}
+use Rattle.slot_rules.proofs.Laws.Ready.{ready, links_few, row_small, channel_small, place_small}
 use Rattle.slot_pick.specs.Picks.{picks_to}
 use Rattle.slot_pick.proofs.Laws.{picks_at}
 use Rattle.slot_keeps.proofs.Leaves.{Leaving, leaving}
 use Rattle.slot_move.specs.Sends.{most_packets}
 
 -- what the picks say of link l
-module _ (w : Store) (sound : sound_of w ≡ true) (picks : List ℕ) (all : picks ≡ picks_to w (links_of w))
-    (l p : ℕ) (h : l < links_of w) (e : p ≡ number_at picks l) where
-  position : pick_of w l ≡ p
-  position = sym (picks_at w (links_of w) l h (sound_is w sound).counts.links_most) ∙ (rw (sym all) (sym e))
+module _ (w : Store) (sound : sound_of w ≡ true) (l : ℕ) (h : l < links_of w) {picks : List (Option ℕ)}
+    (all : picks ≡ picks_to w (links_of w)) (d : Option ℕ) where
+  at : get_or picks l d ≡ row_of (pick_of w l)
+  at = rw all (picks_at w (links_of w) l d h (links_few w sound))
 
-  pub no_row : p ≤ 0 → pick_of w l ≡ 0
-  no_row z = omega (arith, position)
+  pub no_row : get_or picks l d ≡ None → pick_of w l ≡ 0
+  no_row e = go (pick_of w l) refl
+    where
+      go : (p : ℕ) → pick_of w l ≡ p → p ≡ 0
+      go zero f = refl
+      go (suc k) f = absurd (let z : None ≡ Some k = (sym e ∙ (at ∙ rw f)) in cc)
 
-  pub a_row_lem : 0 < p → pick_of w l ≡ suc (p - 1)
-  a_row_lem z = omega (arith, position)
+  pub a_row : {k : ℕ} → get_or picks l d ≡ Some k → pick_of w l ≡ suc k
+  a_row {k} e = go (pick_of w l) refl
+    where
+      go : (p : ℕ) → pick_of w l ≡ p → p ≡ suc k
+      go zero f = absurd (let z : Some k ≡ None = (sym e ∙ (at ∙ rw f)) in cc)
+      go (suc i) f = let z : Some k ≡ Some i = (sym e ∙ (at ∙ rw f)) in cc
 
--- the row that it picked: its place can be read, and the packet that goes next there is one of a message (store's `Row` is any
--- row of a link, as it was read)
-pub record Row (w : Store) (l x j : ℕ) : Type 0 where
-  pub leaves : Leaving w l x j
-  pub ready : Long w × ((x < most_channels) × (j < most_hops))
-  pub message : MessageIs w x (sent_of w x j) (messages_of w x) (ring - 1) most_number (message_of w x j)
+pub pick_few : (w : Store) → sound_of w ≡ true → (l : ℕ) → l < links_of w → pick_of w l ≤ most_rows
+pick_few w sound l h = go (pick_of w l) refl
+  where
+    go : (p : ℕ) → pick_of w l ≡ p → p ≤ most_rows
+    go zero e = omega arith
+    go (suc k) e = omega (arith, row_small w sound l k h (picked w l k e).0)
+
+module _ (w : Store) (sound : sound_of w ≡ true) (l : ℕ) (h : l < links_of w) (k : ℕ) (e : pick_of w l ≡ suc k) where
+  abbrev x : ℕ
+  x = row_channel_of w l k
+
+  abbrev j : ℕ
+  j = row_place_of w l k
+
+  pub row_leaves : Leaving w l x j
+  row_leaves = leaving (sound_is w sound) l k h e
+
+  pub channel_few : row_channel_of w l k < most_channels
+  channel_few = channel_small w sound x row_leaves.stands.channel
+
+  pub place_few : row_place_of w l k < most_hops
+  place_few = place_small w sound x j row_leaves.stands.channel row_leaves.stands.place
+
+  kept : ChannelIs w x
+  kept = (sound_is w sound).channel x row_leaves.stands.channel
+
+  message : MessageIs w x (sent_of w x j) (messages_of w x) (ring - 1) most_number (message_of w x j)
+  message = message_is kept j row_leaves.stands.place row_leaves.held
+
+  pub message_least : 1 ≤ message_of w x j
+  message_least = message.least
+
+  pub message_starts : end_of w x (message_of w x j - 1) ≤ sent_of w x j
+  message_starts = message.starts
+
   pub sent_few : sent_of w x j ≤ most_packets
+  sent_few = omega (
+    arith,
+    row_leaves.held,
+    entered_most kept j row_leaves.stands.place,
+    kept.course.accepted_most,
+    mul-le-mul kept.good.c_most kept.course.messages_most,
+  )
 
-module _ (w : Store) (sound : sound_of w ≡ true) (l : ℕ) (h : l < links_of w) where
-  s : Sound w
-  s = sound_is w sound
-
-  module _ (k : ℕ) (e : pick_of w l ≡ suc k) where
-    pub row_ready : Long w × ((l < most_links) × (k < most_rows))
-    row_ready = row_there w sound l h k (picked w l k e).0
-
-    pub row_at : (x j : ℕ) → x ≡ row_channel_of w l k → j ≡ row_place_of w l k → Row w l x j
-    row_at x j a b = record {
-      leaves = leaves;
-      ready = place_ready w sound x j leaves.stands.channel leaves.stands.place;
-      message = message_is kept j leaves.stands.place leaves.held;
-      sent_few = omega (
-        arith,
-        leaves.held,
-        entered_most kept j leaves.stands.place,
-        kept.course.accepted_most,
-        mul-le-mul kept.good.c_most kept.course.messages_most,
-      );
-    }
-      where
-        leaves : Leaving w l x j
-        leaves = rw (a, b) (leaving s l k h e)
-
-        kept : ChannelIs w x
-        kept = s.channel x leaves.stands.channel
+-- what reading a picked row, and the packet that goes next there, asks
+pub ruleset row_ready = (ready, pick_few, channel_few, place_few, message_least, message_starts)

@@ -1,19 +1,15 @@
 -- One send more at the front of the output, and the loop that writes them.
-use Prim.Native.Nat.{ℕ, suc, ◌+◌, ◌-◌, ◌*◌, ◌≤◌, ◌<◌}
+use Prim.Native.Nat.{ℕ, suc, ◌+◌, ◌-◌, ◌*◌, ◌≤◌}
 use mathlib.Core.Path.{◌≡◌, refl, sym, ◌∙◌, ap}
-use mathlib.Core.Bool.{true}
 use mathlib.Core.List.{List, [], ◌∷◌, ◌++◌, append_assoc, append-nil}
 use native.Mathlib.Numerals.{add-one}
 use native.Mathlib.Omega.{arith}
 use lib.ListN.{length, take, drop, length-append}
 use lib.Seq.{sets, sets-eq, take_at, drop_at, drop-drop}
-use Rattle.kinds.specs.Ranges.{most_links}
-use Rattle.store.specs.Layout.{Store, links_of, clock_of, row_channel_of, row_place_of, sent_of, end_of}
-use Rattle.store.specs.Sound.{sound_of}
-use Rattle.store.proofs.Laws.Sound.{sound_is}
+use Rattle.store.specs.Layout.{Store, clock_of, row_channel_of, row_place_of, sent_of, end_of}
 use Rattle.slot_rules.specs.Head.{message_of}
 use Rattle.slot_rules.specs.Pick.{pick_of}
-use Rattle.slot_rules.specs.Slot.{Send, numbers, send_at, sends_to, slot_sends, written}
+use Rattle.slot_rules.specs.Slot.{Send, numbers, send_at, sends_to, written}
 use Rattle.slot_rules.proofs.Laws.Sends.{numbers_length, numbers_more, sends_most, written_none, written_length}
 use Rattle.slot_move.specs.Sends.{send_put}
 
@@ -54,53 +50,34 @@ module _ (sends : List Send) (u : Send) (out : List ℕ) where
 
 -- the sends of the first l links stand at the front
 pub record Sending (w : Store) (old : List ℕ) (n l : ℕ) (out : List ℕ) : Type 0 where
-  pub few : links_of w ≤ most_links
-  pub place : l ≤ links_of w
   pub count : n ≡ length (sends_to w l)
   pub same : out ≡ written (sends_to w l) old
 
-module _ (w : Store) (old : List ℕ) where
-  pub sending_none : sound_of w ≡ true → Sending w old 0 0 old
+pub sending_none : (w : Store) (old : List ℕ) → Sending w old 0 0 old
+unfolding sends_to
+sending_none w old = record { count = refl; same = sym (written_none old) }
+
+module _ {w : Store} {old : List ℕ} {n l : ℕ} {out : List ℕ} (s : Sending w old n l out) where
+  -- a link that sends nothing
+  pub sending_pass : pick_of w l ≡ 0 → Sending w old n (l + 1) out
   unfolding sends_to
-  sending_none sound = record {
-    few = (sound_is w sound).counts.links_most;
-    place = omega arith;
-    count = refl;
-    same = sym (written_none old);
+  sending_pass e = record {
+    count = rw (add-one l, sends_to, e, append-nil) s.count;
+    same = rw (add-one l, sends_to, e, append-nil) s.same;
   }
 
-  module _ (n l : ℕ) (out : List ℕ) (s : Sending w old n l out) where
-    pub sending_done : links_of w ≤ l → (n ≡ length (slot_sends w)) × (out ≡ written (slot_sends w) old)
-    sending_done h =
-        let e : l ≡ links_of w = omega (arith, s.place) in
-        (rw e at s.count, rw e at s.same)
+  pub sending_few : n ≤ l
+  sending_few = omega (arith, s.count, sends_most w l)
 
-    -- a link that sends nothing
-    pub sending_pass : l < links_of w → pick_of w l ≡ 0 → Sending w old n (l + 1) out
-    unfolding sends_to
-    sending_pass h e = record {
-      few = s.few;
-      place = omega arith;
-      count = rw (add-one l, sends_to, e, append-nil) s.count;
-      same = rw (add-one l, sends_to, e, append-nil) s.same;
-    }
+  pub sending_size : 5 * l ≤ length old → length out ≡ length old
+  sending_size room = rw s.same (written_length (sends_to w l) old (omega (arith, s.count, sending_few)))
 
-    pub sending_few : n ≤ l
-    sending_few = omega (arith, s.count, sends_most w l)
-
-    module _ (room : 5 * links_of w ≤ length old) where
-      pub sending_size : length out ≡ length old
-      sending_size = rw s.same (written_length (sends_to w l) old (omega (arith, s.place, s.count, sending_few)))
-
-      -- and one that sends
-      pub sending_more : l < links_of w → (k : ℕ) → pick_of w l ≡ suc k → (u : Send)
-          → u ≡ send_at w l (row_channel_of w l k) (row_place_of w l k)
-          → (later : List ℕ) → later ≡ send_put out (5 * n) u → Sending w old (n + 1) (l + 1) later
-      unfolding sends_to
-      sending_more h k e u same later put = record {
-        few = s.few;
-        place = omega arith;
-        count = rw (add-one l, sends_to, e, length-append) (omega (arith, s.count));
-        same = rw (add-one l, sends_to, e, put, s.same, s.count, ← same)
-            (put_more (sends_to w l) u old (omega (arith, sends_most w l)));
-      }
+  -- and one that sends
+  pub sending_more : 5 * l + 5 ≤ length old → (k : ℕ) → pick_of w l ≡ suc k → {later : List ℕ}
+      → later ≡ send_put out (5 * n) (send_at w l (row_channel_of w l k) (row_place_of w l k)) → Sending w old (n + 1) (l + 1) later
+  unfolding sends_to
+  sending_more room k e put = record {
+    count = rw (add-one l, sends_to, e, length-append) (omega (arith, s.count));
+    same = rw (add-one l, sends_to, e, put, s.same, s.count)
+        (put_more (sends_to w l) (send_at w l (row_channel_of w l k) (row_place_of w l k)) old (omega (arith, sends_most w l)));
+  }

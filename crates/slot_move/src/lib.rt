@@ -4,7 +4,7 @@
 
 ghost use Rattle.std.specs.Prelude.{◌≡◌, true, suc, ◌+◌, ◌*◌, ◌≤◌, ◌<◌, length};
 ghost use Rattle.kinds.specs.Ranges.{most_links, most_rows, most_channels, most_hops, end_slot};
-ghost use Rattle.store.specs.Layout.{Long, number_at, links_of, clock_of, row_channel_of, row_place_of, sent_of};
+ghost use Rattle.store.specs.Layout.{Long, links_of, clock_of, row_channel_of, row_place_of, sent_of};
 ghost use Rattle.store.specs.Sound.{sound_of};
 ghost use Rattle.slot_rules.specs.Pick.{pick_of};
 ghost use Rattle.slot_rules.specs.Slot.{send_at, slot_sends, move_from, moved, written};
@@ -14,15 +14,8 @@ ghost use Rattle.slot_move.specs.Sends.{send_put, most_packets};
 use kinds::Network;
 use store::{channel, head, link};
 
-// The position of the row that link `l` picked, counted from 1; 0 for none.
-pub fn pick(picks: &[u64; Network::MOST_LINKS], l: usize) -> usize
-    requires { l < most_links }
-    ensures { result ≡ number_at picks.now l }
-{
-    picks[l] as usize
-}
-
 // Send number `n` of the output, counted from 0: link `l` sends the packet of its row `k`.
+#[tactic(auto, using(crate::proofs::Rows::row_ready))]
 fn put_send(store: &[u64], out: &mut [u64], n: usize, slot: u64, l: usize, k: usize)
     requires store_value { sound_of store.now ≡ true }
     requires slot_value { slot ≡ clock_of store.now }
@@ -45,25 +38,21 @@ fn put_send(store: &[u64], out: &mut [u64], n: usize, slot: u64, l: usize, k: us
 }
 
 // The sends, in link order, at the front of the output; how many there are.
-pub fn report(store: &[u64], out: &mut [u64], picks: &[u64; Network::MOST_LINKS]) -> usize
+#[tactic(auto, using(slot_rules::proofs::Laws::Ready::ready))]
+pub fn report(store: &[u64], out: &mut [u64], picks: &[Option<usize>; Network::MOST_LINKS]) -> usize
     requires store_value { sound_of store.now ≡ true }
     requires picks_value { picks.now ≡ picks_to store.now (links_of store.now) }
     requires store_in_bounds { 5 * links_of store.now ≤ length out.old }
     ensures value { result ≡ length (slot_sends store.now) }
     ensures out_after { out.new ≡ written (slot_sends store.now) out.old }
 {
-    let links = head::links(store);
     let slot = head::clock(store);
     let mut n: usize = 0;
-    let mut l: usize = 0;
-    while l < links {
-        let position = pick(picks, l);
-        let sends = position > 0;
-        if sends {
-            put_send(store, out, n, slot, l, position - 1);
+    for l in 0..head::links(store) {
+        if let Some(k) = picks[l] {
+            put_send(store, out, n, slot, l, k);
             n += 1;
         }
-        l += 1;
     }
     n
 }
@@ -85,22 +74,19 @@ fn advance(store: &mut [u64], l: usize, k: usize)
 }
 
 // The picked packets have moved on, and the clock has risen by one.
-pub fn move_on(store: &mut [u64], picks: &[u64; Network::MOST_LINKS])
+#[tactic(auto, using(slot_rules::proofs::Laws::Ready::ready))]
+pub fn move_on(store: &mut [u64], picks: &[Option<usize>; Network::MOST_LINKS])
     requires store_value { sound_of store.old ≡ true }
     requires picks_value { picks.now ≡ picks_to store.old (links_of store.old) }
     requires store_bound { clock_of store.old < end_slot }
     ensures { store.new ≡ moved store.old }
 {
-    let links = head::links(store);
     let slot = head::clock(store);
-    let mut l: usize = 0;
-    while l < links {
-        let leaving = pick(picks, l);
-        let moves = leaving > 0;
-        if moves {
-            advance(store, l, leaving - 1);
+    let links = head::links(store);
+    for l in 0..links {
+        if let Some(k) = picks[l] {
+            advance(store, l, k);
         }
-        l += 1;
     }
     head::put_clock(store, slot + 1);
 }
