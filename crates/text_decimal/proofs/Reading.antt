@@ -1,137 +1,105 @@
--- A number as it is read, digit by digit: the answer from here on is the answer from the start.
-use Prim.Native.Nat.{ℕ, suc, ◌+◌, ◌-◌, ◌*◌, ◌^◌, ◌≤◌, ◌<◌}
-use mathlib.Core.Path.{◌≡◌, sym, ap, ◌∙◌}
-use mathlib.Core.Bool.{Bool, true, false, ◌&&◌, and-false}
+-- A word read as a number, digit by digit.
+use Prim.Native.Nat.{ℕ, ◌+◌, ◌-◌, ◌*◌, ◌^◌, ◌≤◌, ◌<◌}
+use mathlib.Core.Path.{◌≡◌, refl, sym, ◌∙◌}
+use mathlib.Core.Bool.{Bool, true, false, false≢true}
 use mathlib.Core.List.{[], ◌∷◌}
-use native.Mathlib.Nat.{add-zero, one-le-pow, mul-le-mul_left}
+use native.Mathlib.Nat.{one-le-pow, mul-le-mul_left}
 use native.Mathlib.Numerals.{add-one}
 use native.Mathlib.Omega.{arith}
-use borrow.Author.Tests.{lt-ltb, le-ltb, ne_eqb}
-use lib.Dec.{ltb}
-use lib.ListN.{length, get_or, drop_of_length-le}
+use lib.ListN.{length, get_or, drop, drop_of_length-le}
 use lib.Seq.{drop-cons}
-use Rattle.text_decimal.specs.declared.Number.{Number}
-use Rattle.text_decimal.specs.declared.Number.TheVariants.{Value, Nothing}
+use Rattle.std.specs.Prelude.{Some, None}
 use Rattle.text_decimal.specs.Decimal.{Text, is_digit, all_digits, value_from, value_of, too_large, is_number}
-use Rattle.text_decimal.specs.Word.{space, first_word, word_at, number_in}
-use Rattle.text_decimal.proofs.Laws.Digits.{bounds_digit, below_no_digit, above_no_digit, value_least}
+use Rattle.text_decimal.specs.Word.{first_word, word_at, number_of, number_in}
+use Rattle.text_decimal.proofs.Laws.Digits.{number_length, value_least, number_digits, number_fits, digits_number}
 
-abbrev pick : Bool → Number → Number
-pick b n = elim b [ true ↦ n | false ↦ Nothing ]
-
--- the answer at place i, with `word` left of the word that began at `from`, and the digits before it having said `value`
-unfoldable pub answer : (from value i : ℕ) → (word : Text) → Number
-answer from value i word =
-    pick (ltb from (i + length word) && (all_digits word && ltb (value_from value word) too_large))
-    (Value (value_from value word) (i + length word))
-
-answer_start : (from : ℕ) (word : Text)
-    → pick (is_number word) (Value (value_of word) (from + length word)) ≡ answer from 0 from word
-unfolding answer is_number
-answer_start from [] = rw (le-ltb from (from + 0) (omega arith), answer)
-answer_start from (d ∷ rest) = rw (lt-ltb from (from + suc (length rest)) (omega arith), answer)
-
--- no digit, or too large
-both_false : (a b : Bool) → b ≡ false → (a && b) ≡ false
-both_false a b e = rw e (and-false a)
-
-refused : (a b : Bool) (n : Number) → b ≡ false → pick (a && b) n ≡ Nothing
-refused a b n e = rw (both_false a b e)
-
-one_more : (digit digits fits : Bool) (from i j value : ℕ) → digit ≡ true → i ≡ j
-    → pick (ltb from i && ((digit && digits) && fits)) (Value value i) ≡ pick (ltb from j && (digits && fits)) (Value value j)
-one_more digit digits fits from i j value e s = rw (e, s)
-
-module _ (from value i d : ℕ) (rest : Text) where
-  answer_bad : is_digit d ≡ false → answer from value i (d ∷ rest) ≡ Nothing
-  unfolding answer all_digits
-  answer_bad e =
-      refused (ltb from (i + suc (length rest))) _ _
-      (ap (λ (b : Bool). (b && all_digits rest) && ltb (value_from value (d ∷ rest)) too_large) e)
-
-  answer_large : too_large ≤ 10 * value + (d - 48) → answer from value i (d ∷ rest) ≡ Nothing
-  unfolding answer value_from
-  answer_large h =
-      let now = 10 * value + (d - 48) in
-      let m = mul-le-mul_left {m = 1} {n = 10 ^ length rest} now (one-le-pow (length rest) 10 (omega arith)) in
-      let l : too_large ≤ value_from now rest = omega (arith, value_least now rest) in
-      refused (ltb from (i + suc (length rest))) _ _ (both_false (all_digits (d ∷ rest)) _ (le-ltb _ _ l))
-
-  answer_more : is_digit d ≡ true → answer from value i (d ∷ rest) ≡ answer from (10 * value + (d - 48)) (i + 1) rest
-  unfolding answer all_digits value_from
-  answer_more e =
-      one_more (is_digit d) (all_digits rest) _ from (i + suc (length rest)) (i + 1 + length rest) _ e (omega arith)
-
-module _ (from value i : ℕ) where
-  answer_none : i ≡ from → answer from value i [] ≡ Nothing
-  unfolding answer
-  answer_none e = rw (le-ltb from (i + 0) (omega arith), answer)
-
-  answer_done : from < i → value < too_large → answer from value i [] ≡ Value value i
-  unfolding answer all_digits value_from
-  answer_done h k =
-      rw (lt-ltb from (i + 0) (omega arith), lt-ltb value too_large k, answer) (ap (Value value) (add-zero i))
-
--- the word at a place: none at the end or at a space, or else it begins with the byte that stands there
-word_end : (text : Text) (i : ℕ) → length text ≤ i → word_at text i ≡ []
-unfolding first_word
-word_end text i h = rw (drop_of_length-le text {i = i} h)
-
-module _ (text : Text) (i : ℕ) (inside : i < length text) where
-  word_space : get_or text i 0 ≡ space → word_at text i ≡ []
-  unfolding first_word
-  word_space e = rw (drop-cons text i 0 inside, e)
-
-  word_more : (get_or text i 0 ≡ space → ⊥) → word_at text i ≡ get_or text i 0 ∷ word_at text (suc i)
-  unfolding first_word
-  word_more e = rw (drop-cons text i 0 inside, ne_eqb (get_or text i 0) space e, first_word)
-
--- what is read so far
-pub record Read (text : Text) (from value i : ℕ) : Type 0 where
-  pub begun : from ≤ i
+-- the first i bytes of a word are digits, which say `value`, and the others say the rest
+pub record Valued (word : Text) (i value : ℕ) : Type 0 where
   pub fits : value < too_large
-  pub same : number_in text from ≡ answer from value i (word_at text i)
+  pub digits : all_digits word ≡ all_digits (drop i word)
+  pub said : value_of word ≡ value_from value (drop i word)
 
-pub read_none : (text : Text) (from : ℕ) → Read text from 0 from
-unfolding number_in
-read_none text from = record { begun = omega arith; fits = omega arith; same = answer_start from (word_at text from) }
+module _ (word : Text) where
+  pub number_none : (is_number word ≡ true → ⊥) → None ≡ number_of word
+  unfolding number_of
+  number_none h = go (is_number word) refl
+    where
+      go : (t : Bool) → is_number word ≡ t → None ≡ number_of word
+      go true e = absurd (h e)
+      go false e = rw (e, number_of)
 
-module _ (text : Text) (from value i : ℕ) (r : Read text from value i) where
-  -- the end of the word
-  ended : word_at text i ≡ [] → number_in text from ≡ answer from value i []
-  ended e = r.same ∙ ap (answer from value i) e
+  pub number_some : is_number word ≡ true → Some (value_of word) ≡ number_of word
+  unfolding number_of
+  number_some e = rw (e, number_of)
 
-  pub ended_text : length text ≤ i → number_in text from ≡ answer from value i []
-  ended_text h = ended (word_end text i h)
+  pub number_empty : length word ≡ 0 → None ≡ number_of word
+  number_empty e = number_none (λ n. omega (arith, number_length word n))
 
-  pub read_nothing : number_in text from ≡ answer from value i [] → i ≡ from → Nothing ≡ number_in text from
-  read_nothing e s = sym (e ∙ answer_none from value i s)
+  pub valued_none : Valued word 0 0
+  valued_none = record { fits = omega arith; digits = refl; said = refl }
 
-  pub read_value : number_in text from ≡ answer from value i [] → (i ≡ from → ⊥) → Value value i ≡ number_in text from
-  read_value e s = sym (e ∙ answer_done from value i (omega (arith, r.begun)) r.fits)
+  module _ (i value : ℕ) (r : Valued word i value) where
+    pub valued_done : 1 ≤ length word → length word ≤ i → Some value ≡ number_of word
+    unfolding all_digits value_from
+    valued_done some h =
+        let e : drop i word ≡ [] = drop_of_length-le word {i = i} h in
+        let v : value ≡ value_of word = sym (r.said ∙ rw e) in
+        rw v (number_some (digits_number word some (r.digits ∙ rw e) (rw (← v) r.fits)))
 
-  module _ (inside : i < length text) where
-    pub ended_space : get_or text i 0 ≡ space → number_in text from ≡ answer from value i []
-    ended_space e = ended (word_space text i inside e)
+    module _ (inside : i < length word) where
+      abbrev digit : ℕ
+      digit = get_or word i 0
 
-    module _ (word : get_or text i 0 ≡ space → ⊥) where
-      on : number_in text from ≡ answer from value i (get_or text i 0 ∷ word_at text (suc i))
-      on = r.same ∙ ap (answer from value i) (word_more text i inside word)
+      abbrev more : ℕ
+      more = 10 * value + (digit - 48)
 
-      pub read_below : get_or text i 0 < 48 → Nothing ≡ number_in text from
-      read_below h = sym (on ∙ answer_bad from value i _ _ (below_no_digit _ h))
+      at : drop i word ≡ digit ∷ drop (i + 1) word
+      at = rw (add-one i) (drop-cons word i 0 inside)
 
-      pub read_above : 57 < get_or text i 0 → Nothing ≡ number_in text from
-      read_above h = sym (on ∙ answer_bad from value i _ _ (above_no_digit _ h))
+      pub valued_bad : is_digit digit ≡ false → None ≡ number_of word
+      unfolding all_digits
+      valued_bad e =
+          let f : all_digits word ≡ false = r.digits ∙ rw (at, e) in
+          number_none (λ n. false≢true (sym f ∙ number_digits word n))
 
-      pub read_large : too_large ≤ 10 * value + (get_or text i 0 - 48) → Nothing ≡ number_in text from
-      read_large h = sym (on ∙ answer_large from value i _ _ h)
+      pub valued_large : too_large ≤ more → None ≡ number_of word
+      unfolding value_from
+      valued_large h =
+          let later = drop (i + 1) word in
+          let f : value_of word ≡ value_from more later = r.said ∙ rw at in
+          let m = mul-le-mul_left {m = 1} {n = 10 ^ length later} more (one-le-pow (length later) 10 (omega arith)) in
+          number_none (λ n. omega (arith, f, number_fits word n, value_least more later))
 
-      pub read_more : 48 ≤ get_or text i 0 → get_or text i 0 ≤ 57 → 10 * value + (get_or text i 0 - 48) < too_large
-          → Read text from (10 * value + (get_or text i 0 - 48)) (i + 1)
-      read_more a b h =
-          record {
-            begun = omega (arith, r.begun);
-            fits = h;
-            same = on ∙ (answer_more from value i _ _ (bounds_digit _ a b) ∙ rw (add-one i));
-          }
+      pub valued_more : is_digit digit ≡ true → (next : ℕ) → next ≡ more → next < too_large → Valued word (i + 1) next
+      unfolding all_digits value_from
+      valued_more e next n h = record { fits = h; digits = r.digits ∙ rw (at, e); said = r.said ∙ rw (at, n) }
+
+-- the number that stands at a place is that of the word there
+module _ (text : Text) (from : ℕ) where
+  module _ (word : Text) (there : word ≡ word_at text from) where
+    pub none_at : None ≡ number_of word → None ≡ number_in text from
+    unfolding number_of number_in
+    none_at n = go (is_number word) refl
+      where
+        go : (t : Bool) → is_number word ≡ t → None ≡ number_in text from
+        go true e = absurd (let f : number_of word ≡ Some (value_of word) = rw (e, number_of) in let z : ◌≡◌ {A = ℕ} 0 1 = cc in omega arith)
+        go false e = let f : is_number (word_at text from) ≡ false = rw (← there) e in rw (f, number_in)
+
+    pub some_at : (value : ℕ) → Some value ≡ number_of word
+        → Some (record { value = value; end = from + length word }) ≡ number_in text from
+    unfolding number_of number_in
+    some_at value n = go (is_number word) refl
+      where
+        go : (t : Bool) → is_number word ≡ t → Some (record { value = value; end = from + length word }) ≡ number_in text from
+        go true e =
+            let f : is_number (word_at text from) ≡ true = rw (← there) e in
+            let g : number_of word ≡ Some (value_of word) = rw (e, number_of) in
+            let v : value ≡ value_of word = cc in
+            rw (f, number_in, ← there, v)
+        go false e = absurd (let f : number_of word ≡ None = rw (e, number_of) in let z : ◌≡◌ {A = ℕ} 0 1 = cc in omega arith)
+
+  pub none_past : length text < from → None ≡ number_in text from
+  unfolding first_word is_number
+  none_past h =
+      let e : drop from text ≡ [] = drop_of_length-le text {i = from} (omega arith) in
+      none_at [] (rw e) (number_empty [] refl)

@@ -1,105 +1,117 @@
--- The digits of a number as they are written, the last first.
-use Prim.Native.Nat.{ℕ, zero, suc, ◌+◌, ◌-◌, ◌/◌, ◌%◌, ◌^◌, ◌≤◌, ◌<◌}
-use mathlib.Core.Path.{◌≡◌, refl, sym, ap, ◌∙◌}
+-- The digits of a number, the last first.
+use Prim.Native.Nat.{ℕ, zero, suc, ◌+◌, ◌-◌, ◌*◌, ◌/◌, ◌%◌, ◌^◌, ◌≤◌, ◌<◌}
+use mathlib.Core.Path.{◌≡◌, sym, ap, ◌∙◌}
 use mathlib.Core.List.{List, [], ◌∷◌}
+use native.Mathlib.Decide.{dec_le}
+use native.Mathlib.Nat.{pow-suc, one-le-pow, le-div_iff_mul-le, div-lt_iff_lt-mul}
 use native.Mathlib.Omega.{arith}
 use lib.ListN.{length, set}
 use Rattle.text_decimal.specs.Decimal.{Text, too_large, spelled, decimal}
 use Rattle.text_decimal.specs.Put.{put_at}
-use Rattle.text_decimal.proofs.Laws.Put.{put_none, put_front, length_put}
-use Rattle.text_decimal.proofs.Laws.Decimal.{spelled_one, spelled_more, tenth_below, length_least, decimal_length}
+use Rattle.text_decimal.proofs.Laws.Put.{put_none, put_front}
+use Rattle.text_decimal.proofs.Laws.Decimal.{spelled_one, spelled_more, tenth_below, decimal_length}
 
--- `rest` is left of n, with the digits `after` it
-pub record Left (n rest : ℕ) (after : Text) : Type 0 where
-  pub most : ℕ
-  pub below : rest < 10 ^ suc most
-  pub same : decimal n ≡ spelled (suc most) rest after
+-- the last `many` digits of n, in front of `after`
+unfoldable pub last_digits : (many n : ℕ) → (after : Text) → Text
+last_digits zero n after = after
+last_digits (suc many) n after = last_digits many (n / 10) ((48 + n % 10) ∷ after)
 
-pub left_none : (n : ℕ) → n < too_large → Left n n []
+length_last : (many n : ℕ) (after : Text) → length (last_digits many n after) ≡ many + length after
+unfolding last_digits
+length_last zero n after = omega arith
+length_last (suc many) n after = omega (arith, length_last many (n / 10) ((48 + n % 10) ∷ after))
+
+-- a number is spelled by as many digits as its logarithm says, and one
+spelled_last : (log most n : ℕ) (after : Text) → 10 ^ log ≤ n → n < 10 * 10 ^ log → log < most
+    → spelled most n after ≡ last_digits (suc log) n after
+unfolding last_digits
+spelled_last log zero n after l h m = absurd (omega arith)
+spelled_last zero (suc most) n after l h m =
+    let e : n % 10 ≡ n = omega arith in
+    rw (spelled_one most n after (omega arith), e)
+spelled_last (suc log) (suc most) n after l h m =
+    let p = pow-suc 10 log in
+    let a : 10 ^ log ≤ n / 10 = (le-div_iff_mul-le {k = 10} {x = 10 ^ log} {y = n} (omega arith)).1 (omega (arith, pow-suc 10 log)) in
+    let b : n / 10 < 10 * 10 ^ log = (div-lt_iff_lt-mul {k = 10} {x = n} {y = 10 * 10 ^ log} (omega arith)).1 (omega (arith, pow-suc 10 log)) in
+    rw (spelled_more most n after (omega (arith, one-le-pow log 10 (omega arith), pow-suc 10 log))) (spelled_last log most (n / 10) ((48 + n % 10) ∷ after) a b (omega arith))
+
+pub digits_many : (n log : ℕ) → 10 ^ log ≤ n → n < 10 * 10 ^ log → log < 20 → log + 1 ≡ length (decimal n)
 unfolding decimal
-left_none n h = record { most = 19; below = omega arith; same = refl }
+digits_many n log l h m = omega (arith, ap length (spelled_last log 20 n [] l h m), length_last (suc log) n [])
 
-pub left_more : (n rest : ℕ) (after : Text) → Left n rest after → 10 ≤ rest → Left n (rest / 10) ((48 + rest % 10) ∷ after)
-left_more n rest after l h = go l.most l.below l.same
+pub digits_none : (n : ℕ) → n ≡ 0 → 1 ≡ length (decimal n)
+unfolding decimal spelled
+digits_none n e = rw e
+
+-- and so by as many as it has
+abbrev Spelled : (most n : ℕ) (after : Text) → Type 0
+Spelled most n after = (many : ℕ) × (spelled (suc most) n after ≡ last_digits many n after)
+
+one_last : (most n : ℕ) (after : Text) → n < 10 → Spelled most n after
+unfolding last_digits
+one_last most n after h = let e : n % 10 ≡ n = omega arith in (1, rw (spelled_one most n after h, e))
+
+spelled_some : (most n : ℕ) (after : Text) → n < 10 ^ suc most → Spelled most n after
+unfolding last_digits
+spelled_some zero n after h = one_last zero n after (omega arith)
+spelled_some (suc most) n after h =
+    go (spelled_some most (n / 10) ((48 + n % 10) ∷ after) (tenth_below (suc most) n h)) (dec_le 10 n)
   where
-    go : (most : ℕ) → rest < 10 ^ suc most → decimal n ≡ spelled (suc most) rest after
-        → Left n (rest / 10) ((48 + rest % 10) ∷ after)
-    go zero b s = absurd (omega arith)
-    go (suc most) b s =
-        record { most = most; below = tenth_below (suc most) rest b; same = s ∙ spelled_more (suc most) rest after h }
+    go : Spelled most (n / 10) ((48 + n % 10) ∷ after) → Dec (10 ≤ n) → Spelled (suc most) n after
+    go (many, e) (yes m) = (suc many, spelled_more (suc most) n after m ∙ e)
+    go s (no m) = one_last (suc most) n after (omega arith)
 
-pub left_length : (n rest : ℕ) (after : Text) → Left n rest after → suc (length after) ≤ length (decimal n)
-left_length n rest after l = rw l.same (length_least l.most rest after)
+decimal_last : (n : ℕ) → n < too_large → decimal n ≡ last_digits (length (decimal n)) n []
+unfolding decimal
+decimal_last n h =
+    let (many, e) = spelled_some 19 n [] (omega arith) in
+    let l : length (decimal n) ≡ many = omega (arith, ap length e, length_last many n []) in
+    rw l e
 
-pub left_done : (n rest : ℕ) (after : Text) → Left n rest after → rest < 10 → decimal n ≡ (48 + rest) ∷ after
-left_done n rest after l h = l.same ∙ spelled_one l.most rest after h
+-- a digit in front of place i
+put_before : (old : List ℕ) (after : Text) (j i : ℕ) → suc j ≡ i → (x : ℕ) → j < length old
+    → set (put_at old i after) j x ≡ put_at old j (x ∷ after)
+put_before old after j i e x h = rw (← e) (put_front old j x after h)
 
--- how many there are: those that were passed, and one more
-pub record Counted (n count rest : ℕ) : Type 0 where
+-- the digits from place i on are written, `rest` says those before them
+pub record Written (old : List ℕ) (at n : ℕ) (out : List ℕ) (i rest : ℕ) : Type 0 where
   pub after : Text
-  pub left : Left n rest after
-  pub passed : count ≡ suc (length after)
+  pub left : decimal n ≡ last_digits (i - at) rest after
+  pub place : i + length after ≡ at + length (decimal n)
+  pub begun : at ≤ i
+  pub stands : out ≡ put_at old i after
 
-pub counted_none : (n : ℕ) → n < too_large → Counted n 1 n
-counted_none n h = record { after = []; left = left_none n h; passed = refl }
-
-pub counted_more : (n count rest : ℕ) → Counted n count rest → 10 ≤ rest → Counted n (count + 1) (rest / 10)
-counted_more n count rest k h =
-    record {
-      after = (48 + rest % 10) ∷ k.after;
-      left = left_more n rest k.after k.left h;
-      passed = omega (arith, k.passed);
-    }
-
-pub counted_most : (n count rest : ℕ) → Counted n count rest → count ≤ 20
-counted_most n count rest k = omega (arith, k.passed, left_length n rest k.after k.left, (decimal_length n).1)
-
-pub counted_done : (n count rest : ℕ) → Counted n count rest → rest < 10 → count ≡ length (decimal n)
-counted_done n count rest k h = k.passed ∙ sym (ap length (left_done n rest k.after k.left h))
-
--- the digits of n stand in `out` behind place i, up to their end
-pub record Written (before : List ℕ) (at n : ℕ) (out : List ℕ) (i rest : ℕ) : Type 0 where
-  pub after : Text
-  pub left : Left n rest after
-  pub place : suc i + length after ≡ at + length (decimal n)
-  pub stands : out ≡ put_at before (suc i) after
-
-module _ (before : List ℕ) (at n : ℕ) where
-  pub written_none : n < too_large → (i : ℕ) → suc i ≡ at + length (decimal n) → Written before at n before i n
+module _ (old : List ℕ) (at n : ℕ) where
+  pub written_none : n < too_large → (i : ℕ) → i ≡ at + length (decimal n) → Written old at n old i n
   written_none h i e =
-      record { after = []; left = left_none n h; place = omega (arith, e); stands = sym (put_none before (suc i)) }
+      let l : i - at ≡ length (decimal n) = omega (arith, e) in
+      record {
+        after = [];
+        left = rw l (decimal_last n h);
+        place = omega (arith, e);
+        begun = omega (arith, e);
+        stands = sym (put_none old i);
+      }
 
-  module _ (long : at + 20 ≤ length before) (out : List ℕ) (i rest : ℕ) (w : Written before at n out i rest) where
-    pub written_length : length out ≡ length before
-    written_length =
-        ap length w.stands ∙ length_put before (suc i) w.after (omega (arith, w.place, (decimal_length n).1))
+  module _ (out : List ℕ) (i rest : ℕ) (w : Written old at n out i rest) where
+    pub written_more : at + 20 ≤ length old → at < i
+        → Written old at n (set out (i - 1) (48 + rest % 10)) (i - 1) (rest / 10)
+    unfolding last_digits
+    written_more long h =
+        let e : suc (i - 1) ≡ i = omega arith in
+        let f : i - at ≡ suc (i - 1 - at) = omega arith in
+        record {
+          after = (48 + rest % 10) ∷ w.after;
+          left = w.left ∙ rw f;
+          place = omega (arith, w.place);
+          begun = omega arith;
+          stands =
+              rw w.stands (put_before old w.after (i - 1) i e (48 + rest % 10) (omega (arith, w.place, (decimal_length n).1)));
+        }
 
-    pub written_inside : i < length out
-    written_inside = rw written_length (omega (arith, w.place, (decimal_length n).1))
-
-    -- one digit more
-    put : (x : ℕ) → set out i x ≡ put_at before i (x ∷ w.after)
-    put x = ap (λ (l : List ℕ). set l i x) w.stands ∙ put_front before i x w.after (rw written_length at written_inside)
-
-    module _ (h : 10 ≤ rest) where
-      next : Left n (rest / 10) ((48 + rest % 10) ∷ w.after)
-      next = left_more n rest w.after w.left h
-
-      pub written_after : at < i
-      written_after = omega (arith, w.place, left_length n (rest / 10) _ next)
-
-      pub written_more : Written before at n (set out i (48 + rest % 10)) (i - 1) (rest / 10)
-      written_more =
-          let e : suc (i - 1) ≡ i = omega (arith, written_after) in
-          record {
-            after = (48 + rest % 10) ∷ w.after;
-            left = next;
-            place = omega (arith, w.place, e);
-            stands = rw e (put (48 + rest % 10));
-          }
-
-    pub written_done : rest < 10 → set out i (48 + rest) ≡ put_at before at (decimal n)
+    pub written_done : i ≤ at → out ≡ put_at old at (decimal n)
+    unfolding last_digits
     written_done h =
-        let d = left_done n rest w.after w.left h in
-        let e : i ≡ at = omega (arith, w.place, ap length d) in
-        put (48 + rest) ∙ rw (e, d)
+        let e : i ≡ at = omega (arith, w.begun) in
+        let f : i - at ≡ 0 = omega arith in
+        rw (w.stands, w.left, f, e)

@@ -1,89 +1,88 @@
 // A number as text: document 01's "Numbers are decimal, .. and fit in 64 bits".
 #![tactic(auto)]
 
-ghost use Rattle.std.specs.Prelude.{◌≡◌, ◌+◌, ◌≤◌, length};
-ghost use Rattle.text_decimal.specs.Decimal.{decimal};
+ghost use Rattle.std.specs.Prelude.{◌≡◌, ◌+◌, ◌*◌, ◌<◌, ◌≤◌, length, SomeIff};
+ghost use Rattle.text_decimal.specs.Decimal.{decimal, too_large};
 ghost use Rattle.text_decimal.specs.Put.{put_at};
-ghost use Rattle.text_decimal.specs.Word.{number_in};
+ghost use Rattle.text_decimal.specs.Word.{first_word, number_in, number_of};
 
-// Its value, and where the text goes on after it; or no number stands there.
+// A number that was read, and where the text goes on after it.
 #[derive(Clone, Copy)]
-pub enum Number {
-    Nothing,
-    Value(u64, usize),
+pub struct Number {
+    pub value: u64,
+    pub end: usize,
 }
 
-const SPACE: u8 = 32;
-
-const ZERO: u8 = 48;
-
-const NINE: u8 = 57;
-
-const LARGEST: u64 = 18_446_744_073_709_551_615;
-
-fn wide(byte: u8) -> u64
-    ensures { result ≡ byte }
+// Where the first word of a text ends: at the next space, or with the text.
+pub fn word_end(text: &[u8]) -> usize
+    ensures { result ≡ length (first_word text.now) }
 {
-    byte as u64
+    text.iter()
+        .position(|&byte| byte == b' ')
+        .unwrap_or(text.len())
+}
+
+// A number with one more digit behind it, where it fits in 64 bits.
+fn extended(value: u64, digit: u8) -> Option<u64>
+    ensures { SomeIff result (10 * value + digit < too_large) (10 * value + digit) }
+{
+    value.checked_mul(10)?.checked_add(u64::from(digit))
+}
+
+// The number that a word is.
+#[tactic(auto, using(crate::proofs::Reading::number_empty, crate::proofs::Reading::valued_bad, crate::proofs::Reading::valued_large, crate::proofs::Reading::valued_done))]
+fn number_of(word: &[u8]) -> Option<u64>
+    ensures { result ≡ number_of word.now }
+{
+    if word.is_empty() {
+        return None;
+    }
+    let mut value: u64 = 0;
+    for byte in word {
+        if !byte.is_ascii_digit() {
+            return None;
+        }
+        value = extended(value, byte - b'0')?;
+    }
+    Some(value)
 }
 
 // The number that stands at `from`, up to the next space or the end of the text.
-pub fn read(text: &[u8], from: usize) -> Number
+pub fn read(text: &[u8], from: usize) -> Option<Number>
     ensures { result ≡ number_in text.now from }
 {
-    let mut value: u64 = 0;
-    let mut i = from;
-    while i < text.len() {
-        let byte = text[i];
-        if byte == SPACE {
-            break;
-        }
-        if byte < ZERO {
-            return Number::Nothing;
-        }
-        if byte > NINE {
-            return Number::Nothing;
-        }
-        let digit = wide(byte - ZERO);
-        if value > (LARGEST - digit) / 10 {
-            return Number::Nothing; // no more than 64 bits are read
-        }
-        value = 10 * value + digit;
-        i += 1;
-    }
-    if i == from {
-        return Number::Nothing;
-    }
-    Number::Value(value, i)
+    let rest = text.get(from..)?;
+    let word = &rest[..word_end(rest)];
+    let value = number_of(word)?;
+    Some(Number {
+        value,
+        end: from + word.len(),
+    })
 }
 
 // How many digits a number has.
+#[tactic(auto, using(crate::proofs::Writing::digits_many, crate::proofs::Writing::digits_none))]
 fn digits(n: u64) -> usize
     ensures { result ≡ length (decimal n) }
 {
-    let mut count: usize = 1;
-    let mut rest = n;
-    while rest >= 10 {
-        rest /= 10;
-        count += 1;
+    match n.checked_ilog10() {
+        Some(log) => log as usize + 1,
+        None => 1,
     }
-    count
 }
 
 // Writes a number into `out` from `at` on: where it ends. A number has at most 20 digits.
+#[tactic(auto, using(crate::proofs::Laws::Decimal::decimal_length, crate::proofs::Writing::written_none, crate::proofs::Writing::written_more, crate::proofs::Writing::written_done))]
 pub fn write(out: &mut [u8], at: usize, n: u64) -> usize
     requires { at + 20 ≤ length out.old }
     ensures value { result ≡ at + length (decimal n) }
     ensures out_after { out.new ≡ put_at out.old at (decimal n) }
 {
     let end = at + digits(n);
-    let mut i = end - 1;
     let mut rest = n;
-    while rest >= 10 {
-        out[i] = ZERO + (rest % 10) as u8;
+    for i in (at..end).rev() {
+        out[i] = b'0' + (rest % 10) as u8;
         rest /= 10;
-        i -= 1;
     }
-    out[i] = ZERO + rest as u8;
     end
 }

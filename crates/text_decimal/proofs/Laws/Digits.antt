@@ -1,11 +1,11 @@
 -- Digits: what they say, what makes them a number, and that they are a word.
 use Prim.Native.Nat.{ℕ, ◌+◌, ◌-◌, ◌*◌, ◌^◌, ◌≤◌, ◌<◌}
 use mathlib.Core.Path.{◌≡◌, refl}
-use mathlib.Core.Bool.{true, false, and-eq-true_iff}
+use mathlib.Core.Bool.{true, false, false≢true, and-eq-true_iff}
 use mathlib.Core.List.{[], ◌∷◌}
 use native.Mathlib.Nat.{pow-succ', mul-le-mul_right}
 use native.Mathlib.Omega.{arith}
-use borrow.Author.Tests.{leb-true, le-leb, lt-leb, lt-ltb, ltb-true, ne_eqb}
+use borrow.Author.Tests.{leb-true, le-leb, lt-ltb, ltb-true, ne_eqb}
 use lib.Dec.{leb, eqb}
 use lib.ListN.{length}
 use Rattle.text_decimal.specs.Decimal.{Text, is_digit, all_digits, value_from, value_of, too_large, is_number}
@@ -17,12 +17,6 @@ digit_bounds d e = let p = (and-eq-true_iff (leb 48 d) _).0 e in (leb-true 48 d 
 pub bounds_digit : (d : ℕ) → 48 ≤ d → d ≤ 57 → is_digit d ≡ true
 bounds_digit d h k = rw (le-leb 48 d h, le-leb d 57 k)
 
-pub below_no_digit : (d : ℕ) → d < 48 → is_digit d ≡ false
-below_no_digit d h = rw (lt-leb 48 d h)
-
-pub above_no_digit : (d : ℕ) → 57 < d → is_digit d ≡ false
-above_no_digit d h = rw (le-leb 48 d (omega arith), lt-leb d 57 h)
-
 -- more digits say no less
 pub value_least : (before : ℕ) (ds : Text) → before * 10 ^ length ds ≤ value_from before ds
 unfolding value_from
@@ -31,7 +25,12 @@ value_least before (d ∷ rest) =
     let m = mul-le-mul_right {m = 10 * before} {n = 10 * before + (d - 48)} (10 ^ length rest) (omega arith) in
     rw (pow-succ' 10 (length rest)) (omega (arith, value_least (10 * before + (d - 48)) rest))
 
--- a number is digits, and fits
+-- a number has a digit, is digits, and fits
+pub number_length : (ds : Text) → is_number ds ≡ true → 1 ≤ length ds
+unfolding is_number
+number_length [] e = absurd (false≢true e)
+number_length (d ∷ rest) e = omega arith
+
 pub number_digits : (ds : Text) → is_number ds ≡ true → all_digits ds ≡ true
 unfolding is_number all_digits
 number_digits [] e = refl
