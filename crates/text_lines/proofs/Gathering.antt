@@ -1,132 +1,97 @@
--- What is still ahead while the bytes of a line are gathered.
-use Prim.Native.Nat.{ℕ, suc, ◌+◌, ◌-◌, ◌≤◌, ◌<◌, min}
-use mathlib.Core.Path.{◌≡◌, refl, sym, ◌∙◌}
+-- What is gathered of a text: the bytes in front of its first line feed, as far as there is room for them.
+use Prim.Native.Nat.{ℕ, ◌+◌, ◌-◌, ◌≤◌, ◌<◌, min}
+use mathlib.Core.Path.{◌≡◌, refl, ap, ◌∙◌}
 use mathlib.Core.Bool.{Bool, true, false}
-use mathlib.Core.List.{List, [], ◌∷◌}
-use native.Mathlib.Numerals.{add-one}
+use mathlib.Core.List.{[], ◌∷◌}
+use native.Mathlib.Decide.{dec_le}
 use native.Mathlib.Omega.{arith}
-use borrow.Author.Tests.{eq-eqb, ne_eqb}
+use borrow.Author.Tests.{lt-ltb, le-ltb}
+use borrow.Rule.Slice.PartMut.{put_mid}
 use lib.Dec.{eqb}
-use lib.ListN.{length, drop, set, get_or, drop_of_length-le, length-set}
-use lib.Seq.{drop-cons, take-nil}
+use lib.ListN.{length, take, length-take}
+use lib.Seq.{take_all}
+use mir.Val.{bool_byte}
+use Rattle.std.specs.List.{position, position_or_len}
+use Rattle.std.specs.Prelude.{Option, Some, None}
+use Rattle.std.specs.Option.{unwrap_or, is_some}
+use Rattle.text_decimal.specs.Decimal.{Text}
 use Rattle.text_decimal.specs.Word.{line_feed}
 use Rattle.text_decimal.specs.Put.{put_at}
-use Rattle.text_decimal.proofs.Laws.Put.{put_none, put_next}
-use Rattle.text_lines.specs.declared.Gathered.{Gathered}
+use Rattle.text_decimal.proofs.Laws.Put.{put_part}
 use Rattle.text_lines.specs.Lines.{ahead, feed_ahead, feed_bytes, most_kept}
 use Rattle.text_lines.specs.Gathered.{gathered, fitting}
+use Rattle.text_lines.proofs.Laws.{ahead_feed, ahead_other, ahead_none, ahead_within, all_ahead}
 
-pub ahead_feed : (b : ℕ) (rest : List ℕ) → eqb b line_feed ≡ true → (ahead (b ∷ rest) ≡ []) × (feed_ahead (b ∷ rest) ≡ true)
-unfolding ahead feed_ahead
-ahead_feed b rest h = (rw (h, ahead), rw (h, feed_ahead))
+abbrev pub is_feed : ℕ → Bool
+is_feed b = eqb b line_feed
 
-pub ahead_other : (b : ℕ) (rest : List ℕ) → eqb b line_feed ≡ false
-    → (ahead (b ∷ rest) ≡ b ∷ ahead rest) × (feed_ahead (b ∷ rest) ≡ feed_ahead rest)
-unfolding ahead feed_ahead
-ahead_other b rest h = (rw (h, ahead), rw (h, feed_ahead))
+-- what is ahead is the front of the text, up to the first line feed
+ahead_front : (text : Text) → take (length (ahead text)) text ≡ ahead text
+ahead_front [] = rw ahead_none.0
+ahead_front (b ∷ rest) = go (eqb b line_feed) refl (ahead_front rest)
+  where
+    go : (t : Bool) → eqb b line_feed ≡ t → take (length (ahead rest)) rest ≡ ahead rest
+        → take (length (ahead (b ∷ rest))) (b ∷ rest) ≡ ahead (b ∷ rest)
+    go true e r = rw (ahead_feed b rest e).0
+    go false e r = rw (ahead_other b rest e).0 (ap (λ (t : Text). b ∷ t) r)
 
-pub ahead_none : (ahead [] ≡ []) × (feed_ahead [] ≡ false)
-unfolding ahead feed_ahead
-ahead_none = (refl, refl)
+ahead_place : (text : Text) → length (ahead text) ≡ position_or_len is_feed text
+ahead_place [] = rw ahead_none.0
+ahead_place (b ∷ rest) = go (eqb b line_feed) refl (ahead_place rest)
+  where
+    go : (t : Bool) → eqb b line_feed ≡ t → length (ahead rest) ≡ position_or_len is_feed rest
+        → length (ahead (b ∷ rest)) ≡ position_or_len is_feed (b ∷ rest)
+    go true e r = rw ((ahead_feed b rest e).0, e)
+    go false e r = rw ((ahead_other b rest e).0, e) (omega (arith, r))
 
--- What is gathered in the end is what is kept now and what is ahead, cut.
-pub record Rest (chunk : List ℕ) (from : ℕ) (line₀ : List ℕ) (before : ℕ) (line : List ℕ) (i kept : ℕ) : Type 0 where
-  pub ends : from + length (ahead (drop from chunk)) ≡ i + length (ahead (drop i chunk))
-  pub feed : feed_ahead (drop from chunk) ≡ feed_ahead (drop i chunk)
-  pub many : min most_kept (before + length (ahead (drop from chunk))) ≡ min most_kept (kept + length (ahead (drop i chunk)))
-  pub text : put_at line₀ before (fitting before (ahead (drop from chunk))) ≡ put_at line kept (fitting kept (ahead (drop i chunk)))
-  pub most : kept ≤ most_kept
-  pub within : i ≤ length chunk
-  pub wide : length line ≡ most_kept
+take_min : (n : ℕ) (text : Text) → take (min (length text) n) text ≡ take n text
+take_min n text = go (dec_le n (length text))
+  where
+    go : Dec (n ≤ length text) → take (min (length text) n) text ≡ take n text
+    go (yes h) = let e : min (length text) n ≡ n = omega arith in rw e
+    go (no h) =
+        let e : min (length text) n ≡ length text = omega arith in
+        rw (e, take_all n text (omega arith), take_all (length text) text (omega arith))
 
-pub rest_none : (chunk : List ℕ) (from : ℕ) (line : List ℕ) (before : ℕ) → before ≤ most_kept → from ≤ length chunk
-    → length line ≡ most_kept → Rest chunk from line before line from before
-rest_none chunk from line before h k l =
-    record { ends = refl; feed = refl; many = refl; text = refl; most = h; within = k; wide = l }
+-- what `position` finds of it
+module _ (text : Text) (feed : Option ℕ) (found : feed ≡ position is_feed text) where
+  abbrev Found : Type 0
+  Found = (unwrap_or feed (length text) ≡ length (ahead text)) × (is_some feed ≡ feed_ahead text)
 
--- a byte more is kept; one more where 256 are kept makes no difference
-one_kept : (line : List ℕ) (kept b : ℕ) (rest : List ℕ) → kept < most_kept → length line ≡ most_kept
-    → put_at line kept (fitting kept (b ∷ rest)) ≡ put_at (set line kept b) (kept + 1) (fitting (kept + 1) rest)
-one_kept line kept b rest h w =
-    let e : most_kept - kept ≡ suc (most_kept - (kept + 1)) = omega arith in
-    rw e (put_next line kept b (fitting (kept + 1) rest) (omega (arith, w)))
+  feed_found : Found
+  feed_found = go (feed_ahead text) refl
+    where
+      go : (t : Bool) → feed_ahead text ≡ t → Found
+      go true e =
+          let l : length (ahead text) < length text = omega (arith, rw e at (ahead_within text)) in
+          let f : feed ≡ Some (length (ahead text)) = rw (found, ← ahead_place text, lt-ltb _ _ l) in
+          rw (f, e) (refl, refl)
+      go false e =
+          let l : length text ≡ length (ahead text) = rw (all_ahead text e) in
+          let f : feed ≡ None = rw (found, ← ahead_place text, le-ltb (length (ahead text)) (length text) (omega arith)) in
+          rw (f, e) (l, refl)
 
-none_kept : (kept : ℕ) (text : List ℕ) → most_kept ≤ kept → fitting kept text ≡ []
-none_kept kept text h = let e : most_kept - kept ≡ 0 = omega arith in rw e
+  byte_is : (t : Bool) → bool_byte t ≡ feed_bytes t
+  byte_is true = refl
+  byte_is false = refl
 
--- From what is ahead at place i to what is ahead after it.
-module _ {chunk : List ℕ} {from : ℕ} {line₀ : List ℕ} {before : ℕ} {line : List ℕ} {i kept : ℕ}
-    (r : Rest chunk from line₀ before line i kept) where
-  -- a byte that is no line feed: it is kept, or there is no room for it
-  module _ (h : i < length chunk) (q : get_or chunk i 0 ≡ line_feed → ⊥) where
-    n : eqb (get_or chunk i 0) line_feed ≡ false
-    n = ne_eqb _ _ q
+  -- what the call then says and leaves, `end` and `whole` being what was found
+  module _ (line : Text) (before from : ℕ) (room : before ≤ most_kept) (end : ℕ) (whole : Bool)
+      (e : end ≡ unwrap_or feed (length text)) (f : whole ≡ is_some feed) where
+    cut : take end text ≡ ahead text
+    cut = rw (e, feed_found.0) (ahead_front text)
 
-    next : ahead (drop i chunk) ≡ get_or chunk i 0 ∷ ahead (drop (i + 1) chunk)
-    next = rw (drop-cons chunk i 0 h, add-one i) (ahead_other _ _ n).0
+    pub gathered_value : (byte kept : ℕ) → byte ≡ bool_byte whole → kept ≡ min (length (take end text)) (most_kept - before)
+        → record { at = from + length (take end text) + byte; length = before + kept; whole = whole } ≡ gathered text from before
+    gathered_value byte kept b k =
+        let w : whole ≡ feed_ahead text = f ∙ feed_found.1 in
+        let n : byte ≡ feed_bytes (feed_ahead text) = b ∙ (byte_is whole ∙ rw w) in
+        let m : before + kept ≡ min most_kept (before + length (ahead text)) = omega (arith, k, ap length cut) in
+        rw (m, n, w, cut)
 
-    next_feed : feed_ahead (drop i chunk) ≡ feed_ahead (drop (i + 1) chunk)
-    next_feed = rw (drop-cons chunk i 0 h, add-one i) (ahead_other _ _ n).1
-
-    shorter : length (ahead (drop i chunk)) ≡ suc (length (ahead (drop (i + 1) chunk)))
-    shorter = rw next
-
-    pub rest_more : kept < most_kept → Rest chunk from line₀ before (set line kept (get_or chunk i 0)) (i + 1) (kept + 1)
-    rest_more k = record {
-      ends = r.ends ∙ rw shorter (omega arith);
-      feed = r.feed ∙ next_feed;
-      many = r.many ∙ rw shorter (omega arith);
-      text = r.text ∙ rw next (one_kept line kept _ _ k r.wide);
-      most = omega arith;
-      within = omega arith;
-      wide = simp length-set r.wide;
-    }
-
-    pub rest_full : (kept < most_kept → ⊥) → Rest chunk from line₀ before line (i + 1) kept
-    rest_full k = record {
-      ends = r.ends ∙ rw shorter (omega arith);
-      feed = r.feed ∙ next_feed;
-      many = r.many ∙ rw shorter (omega (arith, r.most));
-      text = r.text ∙ rw (full (ahead (drop i chunk)), full (ahead (drop (i + 1) chunk)));
-      most = r.most;
-      within = omega arith;
-      wide = r.wide;
-    }
-      where
-        full : (text : List ℕ) → fitting kept text ≡ []
-        full text = none_kept kept text (omega arith)
-
-  -- nothing is ahead: all is gathered
-  module _ (e : ahead (drop i chunk) ≡ []) where
-    none_left : length (ahead (drop i chunk)) ≡ 0
-    none_left = rw e
-
-    rest_ends : from + length (ahead (drop from chunk)) ≡ i
-    rest_ends = r.ends ∙ rw none_left (omega arith)
-
-    rest_many : kept ≡ min most_kept (before + length (ahead (drop from chunk)))
-    rest_many = let m = r.most in sym (r.many ∙ rw none_left (omega arith))
-
-    rest_text : line ≡ put_at line₀ before (fitting before (ahead (drop from chunk)))
-    rest_text = sym (r.text ∙ rw (e, take-nil) (put_none line kept))
-
-  -- what the call then says, at the line feed and at the end of the chunk
-  at_feed : i < length chunk → eqb (get_or chunk i 0) line_feed ≡ true
-      → (ahead (drop i chunk) ≡ []) × (feed_ahead (drop i chunk) ≡ true)
-  at_feed h n = rw (drop-cons chunk i 0 h) (ahead_feed _ _ n)
-
-  at_end : length chunk ≤ i → (ahead (drop i chunk) ≡ []) × (feed_ahead (drop i chunk) ≡ false)
-  at_end h = rw (drop_of_length-le chunk h) ahead_none
-
-  abbrev pub Ends : Gathered → Type 0
-  Ends g = (g ≡ gathered (drop from chunk) from before) × (line ≡ put_at line₀ before (fitting before (ahead (drop from chunk))))
-
-  ends : ahead (drop i chunk) ≡ [] → (end : ℕ) (whole : Bool) → feed_ahead (drop from chunk) ≡ whole → end ≡ i + feed_bytes whole
-      → Ends (record { at = end; length = kept; whole = whole })
-  ends e end whole f n = (rw (n, f, rest_ends e, rest_many e), rest_text e)
-
-  pub rest_fed : i < length chunk → get_or chunk i 0 ≡ line_feed → Ends (record { at = i + 1; length = kept; whole = true })
-  rest_fed h q = let e = at_feed h (eq-eqb _ _ q) in ends e.0 _ true (r.feed ∙ e.1) refl
-
-  pub rest_ended : length chunk ≤ i → Ends (record { at = i; length = kept; whole = false })
-  rest_ended h = let e = at_end h in ends e.0 _ false (r.feed ∙ e.1) (omega arith)
+    pub line_kept : (kept many : ℕ) (part : Text) → kept ≡ min (length (take end text)) (most_kept - before)
+        → many ≡ kept → part ≡ take kept (take end text) → put_mid before many line part ≡ put_at line before (fitting before (ahead text))
+    line_kept kept many part k m p =
+        let l = length-take (most_kept - before) (ahead text) in
+        let q : take kept (take end text) ≡ fitting before (ahead text) = rw (k, cut) (take_min (most_kept - before) (ahead text)) in
+        rw (p, q) (put_part line before many (fitting before (ahead text)) (omega (arith, k, ap length cut)))

@@ -13,7 +13,20 @@ use Rattle.text_decimal.specs.Put.{put_at}
 use Rattle.text_decimal.proofs.Laws.Put.{take_put_end}
 use Rattle.text_lines.specs.Lines.{lines_from, ahead, feed_ahead, feed_bytes, most_kept}
 use Rattle.text_lines.specs.Gathered.{fitting}
-use Rattle.text_lines.proofs.Gathering.{ahead_feed, ahead_other, ahead_none}
+
+-- one byte ahead: a line feed, or another
+pub ahead_feed : (b : ℕ) (rest : Text) → eqb b line_feed ≡ true → (ahead (b ∷ rest) ≡ []) × (feed_ahead (b ∷ rest) ≡ true)
+unfolding ahead feed_ahead
+ahead_feed b rest h = (rw (h, ahead), rw (h, feed_ahead))
+
+pub ahead_other : (b : ℕ) (rest : Text) → eqb b line_feed ≡ false
+    → (ahead (b ∷ rest) ≡ b ∷ ahead rest) × (feed_ahead (b ∷ rest) ≡ feed_ahead rest)
+unfolding ahead feed_ahead
+ahead_other b rest h = (rw (h, ahead), rw (h, feed_ahead))
+
+pub ahead_none : (ahead [] ≡ []) × (feed_ahead [] ≡ false)
+unfolding ahead feed_ahead
+ahead_none = (refl, refl)
 
 -- one byte more: a line feed, or another
 line_ends : (before : Text) (b : ℕ) (rest : Text) → eqb b line_feed ≡ true

@@ -27,26 +27,16 @@ pub fn gather(chunk: &[u8], from: usize, line: &mut [u8], before: usize) -> Gath
     ensures line_after { line.new
         ≡ put_at line.old before (fitting before (ahead (drop from chunk.now))) }
 {
-    let mut i = from;
-    let mut kept = before;
-    while i < chunk.len() {
-        let byte = chunk[i];
-        i += 1;
-        if byte == b'\n' {
-            return Gathered {
-                at: i,
-                length: kept,
-                whole: true,
-            };
-        }
-        if kept < KEPT {
-            line[kept] = byte;
-            kept += 1;
-        }
-    }
+    let rest = &chunk[from..];
+    let feed = rest.iter().position(|&byte| byte == b'\n');
+    let ahead = &rest[..feed.unwrap_or(rest.len())];
+    let kept = ahead.len().min(KEPT - before);
+    let end = before + kept;
+    line[before..end].copy_from_slice(&ahead[..kept]);
+    let whole = feed.is_some();
     Gathered {
-        at: i,
-        length: kept,
-        whole: false,
+        at: from + ahead.len() + usize::from(whole),
+        length: end,
+        whole,
     }
 }

@@ -8,6 +8,7 @@ use native.Mathlib.Omega.{arith}
 use lib.ListN.{length, take, drop, set, length-append, length-take, length-drop, take-append-drop}
 use lib.Seq.{length-take-le, take-suc, take-append_seam, set_split, set_at, take_at, drop_at, drop-drop, take-add, take-suc-set}
 use lib.Seq.{drop-set-lt}
+use borrow.Rule.Slice.PartMut.{put_mid}
 use Rattle.text_decimal.specs.Put.{put_at, part_of}
 
 module _ (all : List ℕ) (at : ℕ) where
@@ -76,3 +77,8 @@ part_more all a b c h k =
     let e : c - a ≡ (b - a) + (c - b) = omega arith in
     let f : a + (b - a) ≡ b = omega arith in
     rw (e, take-add (b - a) (c - b) (drop a all), drop-drop, f)
+
+-- what a part of a list holds once it is written
+pub put_part : (all : List ℕ) (at many : ℕ) (part : List ℕ) → length part ≡ many → put_mid at many all part ≡ put_at all at part
+unfolding put_at
+put_part all at many part e = rw (drop-drop many at all, e)
