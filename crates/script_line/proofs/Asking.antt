@@ -1,52 +1,48 @@
 -- What is asked, word by word.
-use Prim.Native.Nat.{ℕ, ◌<◌}
-use mathlib.Core.Path.{◌≡◌, sym, ◌∙◌}
-use mathlib.Core.Bool.{Bool, true, false}
-use borrow.Author.Tests.{lt-leb, ne_eqb}
+use Prim.Native.Nat.{ℕ, ◌-◌, ◌≤◌}
+use mathlib.Core.Path.{◌≡◌, refl}
+use mathlib.Core.Bool.{Bool, true, false, ◌&&◌}
+use borrow.Author.Tests.{le-leb, leb-true, eqb-true}
+use lib.Dec.{eqb, leb}
 use Rattle.text_decimal.specs.Decimal.{Text}
-use Rattle.script_line.specs.declared.Line.{Line}
-use Rattle.script_line.specs.declared.Line.TheVariants.{Bad, Link, Offer, Tick}
+use Rattle.script_line.specs.declared.Line.TheVariants.{Bad, Link, Open, Offer, Tick}
 use Rattle.script_line.specs.Phrase.{link_word, open_word, offer_word, tick_word}
 use Rattle.script_line.specs.Line.{same, asked}
 use Rattle.script_line.proofs.Laws.Same.{same_is}
 
-module _ (count : ℕ) where
-  pub link_asked : count ≡ 4 → asked link_word count ≡ Link
+neither : (a b : Bool) → (a ≡ true → b ≡ true → ⊥) → (a && b) ≡ false
+neither true true h = absurd (h refl refl)
+neither true false h = refl
+neither false b h = refl
+
+-- the first word is one of the four, with so many numbers
+module _ (first : Text) (count : ℕ) where
+  pub link_found : same first link_word ≡ true → count ≡ 4 → Link ≡ asked first count
   unfolding asked same
-  link_asked e = rw e
+  link_found s e = rw (same_is first link_word s, e)
 
-  pub link_bad : (count ≡ 4 → ⊥) → asked link_word count ≡ Bad
+  pub open_found : same first open_word ≡ true → 4 ≤ count → Open (count - 4) ≡ asked first count
   unfolding asked same
-  link_bad h = rw (ne_eqb count 4 h, asked)
+  open_found s h = rw (same_is first open_word s, le-leb 4 count h, asked)
 
-  pub open_bad : count < 4 → asked open_word count ≡ Bad
+  pub offer_found : same first offer_word ≡ true → count ≡ 2 → Offer ≡ asked first count
   unfolding asked same
-  open_bad h = rw (lt-leb 4 count h, asked)
+  offer_found s e = rw (same_is first offer_word s, e)
 
-  pub offer_asked : count ≡ 2 → asked offer_word count ≡ Offer
+  pub tick_found : same first tick_word ≡ true → count ≡ 1 → Tick ≡ asked first count
   unfolding asked same
-  offer_asked e = rw e
+  tick_found s e = rw (same_is first tick_word s, e)
 
-  pub offer_bad : (count ≡ 2 → ⊥) → asked offer_word count ≡ Bad
-  unfolding asked same
-  offer_bad h = rw (ne_eqb count 2 h, asked)
-
-  pub tick_asked : count ≡ 1 → asked tick_word count ≡ Tick
-  unfolding asked same
-  tick_asked e = rw e
-
-  pub tick_bad : (count ≡ 1 → ⊥) → asked tick_word count ≡ Bad
-  unfolding asked same
-  tick_bad h = rw (ne_eqb count 1 h, asked)
-
-  module _ (first : Text) where
-    -- the first word was found to be `word`
-    pub this_asked : (word : Text) (found : Bool) (what : Line) → found ≡ same first word → found ≡ true
-        → asked word count ≡ what → what ≡ asked first count
-    this_asked word found what e t a = rw (same_is first word (sym e ∙ t)) (sym a)
-
-    -- it was found to be none of the four
-    pub none_asked : (a b c d : Bool) → a ≡ same first link_word → b ≡ same first open_word → c ≡ same first offer_word
-        → d ≡ same first tick_word → a ≡ false → b ≡ false → c ≡ false → d ≡ false → Bad ≡ asked first count
-    unfolding asked
-    none_asked a b c d e f g h p q r s = rw (sym e ∙ p, sym f ∙ q, sym g ∙ r, sym h ∙ s, asked)
+  -- or it is none of them, or the numbers are too many or too few
+  pub none_found : (same first link_word ≡ true → count ≡ 4 → ⊥) → (same first open_word ≡ true → 4 ≤ count → ⊥)
+      → (same first offer_word ≡ true → count ≡ 2 → ⊥) → (same first tick_word ≡ true → count ≡ 1 → ⊥)
+      → Bad ≡ asked first count
+  unfolding asked
+  none_found a b c d =
+      rw (
+        neither _ (eqb count 4) (λ s t. a s (eqb-true count 4 t)),
+        neither _ (leb 4 count) (λ s t. b s (leb-true 4 count t)),
+        neither _ (eqb count 2) (λ s t. c s (eqb-true count 2 t)),
+        neither _ (eqb count 1) (λ s t. d s (eqb-true count 1 t)),
+        asked,
+      )

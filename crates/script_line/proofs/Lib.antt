@@ -1,6 +1,5 @@
 pub mod Laws
-mod Scan
 mod Asking
 mod Reading
-mod Answers
+mod Whole
 mod Figures

@@ -9,18 +9,17 @@ use borrow.Author.Tests.{eqb-true}
 use lib.Dec.{eqb}
 use lib.ListN.{length, drop, set, get_or, drop_of_length-le, length-drop, length-set}
 use lib.Seq.{drop-cons, drop-drop}
-use Rattle.text_decimal.specs.declared.Number.TheVariants.{Value, Nothing}
+use Rattle.std.specs.Prelude.{Option, Some, None}
+use Rattle.text_decimal.specs.declared.Number.{Number}
 use Rattle.text_decimal.specs.Decimal.{Text, is_number, value_of}
 use Rattle.text_decimal.specs.Put.{put_at}
 use Rattle.text_decimal.specs.Word.{space, first_word, word_at, number_in}
 use Rattle.text_decimal.proofs.Laws.Put.{put_none, put_next}
-use Rattle.script_line.specs.declared.Count.{Count}
-use Rattle.script_line.specs.declared.Count.TheVariants.{Broken, All}
+use Rattle.text_decimal.proofs.Laws.Word.{word_space, word_more, word_most}
+use Rattle.text_decimal.proofs.Laws.Digits.{number_length}
 use Rattle.script_line.specs.Line.{longer, words, behind, all_numbers, leading, most_bytes}
 use Rattle.script_line.specs.Count.{count_of}
-use Rattle.script_line.proofs.Laws.Words.{word_space, word_more, words_more, words_first}
-use Rattle.script_line.proofs.Laws.Sizes.{number_length}
-use Rattle.script_line.proofs.Scan.{word_most}
+use Rattle.script_line.proofs.Laws.Words.{words_more, words_first}
 
 -- A text from the end of its first word on: no word begins there, and the words behind it are there still.
 behind_longer : (b : ℕ) (some : List Text) → behind (longer b some) ≡ behind some
@@ -68,30 +67,31 @@ module _ (line : Text) (i : ℕ) (inside : i < length line) (over : first_word (
 
 -- what the answer says of the word
 module _ (text : Text) (from : ℕ) where
-  number_none : number_in text from ≡ Nothing → is_number (word_at text from) ≡ false
+  number_none : number_in text from ≡ None → is_number (word_at text from) ≡ false
   unfolding number_in
   number_none h = go (is_number (word_at text from)) refl
     where
       go : (t : Bool) → is_number (word_at text from) ≡ t → is_number (word_at text from) ≡ false
       go true e =
-          let f : number_in text from ≡ Value (value_of (word_at text from)) (from + length (word_at text from)) = rw (e, number_in) in
+          let f : number_in text from ≡ Some (record { value = value_of (word_at text from); end = from + length (word_at text from) }) = rw (e, number_in) in
           absurd (let z : ◌≡◌ {A = ℕ} 0 1 = cc in omega arith)
       go false e = e
 
-  abbrev Shown : (value end : ℕ) → Type 0
-  Shown value end =
-      (is_number (word_at text from) ≡ true) × ((value ≡ value_of (word_at text from)) × (end ≡ from + length (word_at text from)))
+  abbrev Shown : Number → Type 0
+  Shown number =
+      (is_number (word_at text from) ≡ true)
+      × ((number.value ≡ value_of (word_at text from)) × (number.end ≡ from + length (word_at text from)))
 
-  number_some : (value end : ℕ) → number_in text from ≡ Value value end → Shown value end
+  number_some : (number : Number) → number_in text from ≡ Some number → Shown number
   unfolding number_in
-  number_some value end h = go (is_number (word_at text from)) refl
+  number_some number h = go (is_number (word_at text from)) refl
     where
-      go : (t : Bool) → is_number (word_at text from) ≡ t → Shown value end
+      go : (t : Bool) → is_number (word_at text from) ≡ t → Shown number
       go true e =
-          let f : number_in text from ≡ Value (value_of (word_at text from)) (from + length (word_at text from)) = rw (e, number_in) in
+          let f : number_in text from ≡ Some (record { value = value_of (word_at text from); end = from + length (word_at text from) }) = rw (e, number_in) in
           (e, ((cc), (cc)))
       go false e =
-          let f : number_in text from ≡ Nothing = rw (e, number_in) in
+          let f : number_in text from ≡ None = rw (e, number_in) in
           absurd (let z : ◌≡◌ {A = ℕ} 0 1 = cc in omega arith)
 
 -- i is the end of a word, n of the words behind the first are read, and what is left decides
@@ -105,7 +105,7 @@ pub record Reading (line : Text) (before numbers : List ℕ) (n i : ℕ) : Type 
   pub count : length (behind (words line)) ≡ n + length (behind (words (drop i line)))
 
 -- what is answered and left in the end
-abbrev pub Ends : (line : Text) → (before numbers : List ℕ) → Count → Type 0
+abbrev pub Ends : (line : Text) → (before numbers : List ℕ) → Option ℕ → Type 0
 Ends line before numbers answer =
     (answer ≡ count_of (behind (words line))) × (numbers ≡ put_at before 0 (leading (behind (words line))))
 
@@ -124,7 +124,7 @@ module _ (line : Text) (before : List ℕ) where
       })
 
   module _ (numbers : List ℕ) (n i : ℕ) (o : Reading line before numbers n i) where
-    pub reading_done : length line ≤ i → Ends line before numbers (All n)
+    pub reading_done : length line ≤ i → Ends line before numbers (Some n)
     unfolding words all_numbers leading count_of
     reading_done h =
         let e : drop i line ≡ [] = drop_of_length-le line {i = i} h in
@@ -137,7 +137,7 @@ module _ (line : Text) (before : List ℕ) where
       next : behind (words (drop i line)) ≡ word_at line (i + 1) ∷ behind (words (drop (i + 1) line))
       next = next_word line i inside o.over
 
-      pub reading_broken : number_in line (i + 1) ≡ Nothing → Ends line before numbers Broken
+      pub reading_broken : number_in line (i + 1) ≡ None → Ends line before numbers None
       unfolding all_numbers leading count_of
       reading_broken e =
           let f = number_none line (i + 1) e in
@@ -149,12 +149,18 @@ module _ (line : Text) (before : List ℕ) where
         pub reading_fits : n < length numbers
         reading_fits = omega (arith, o.room, o.size)
 
-        module _ (value end : ℕ) (e : number_in line (i + 1) ≡ Value value end) where
-          number : is_number (word_at line (i + 1)) ≡ true
-          number = (number_some line (i + 1) value end e).0
+        module _ (number : Number) (e : number_in line (i + 1) ≡ Some number) where
+          abbrev value : ℕ
+          value = number.value
+
+          abbrev end : ℕ
+          end = number.end
+
+          is_one : is_number (word_at line (i + 1)) ≡ true
+          is_one = (number_some line (i + 1) number e).0
 
           ended : end ≡ i + 1 + length (word_at line (i + 1))
-          ended = (number_some line (i + 1) value end e).1.1
+          ended = (number_some line (i + 1) number e).1.1
 
           rest : drop end line ≡ drop (length (word_at line (i + 1))) (drop (i + 1) line)
           rest = rw ended (sym (drop-drop (length (word_at line (i + 1))) (i + 1) line))
@@ -164,7 +170,7 @@ module _ (line : Text) (before : List ℕ) where
 
           numbered : leading (behind (words (drop i line))) ≡ value ∷ leading (behind (words (drop end line)))
           unfolding leading
-          numbered = rw (later, number, leading, (number_some line (i + 1) value end e).1.0)
+          numbered = rw (later, is_one, leading, (number_some line (i + 1) number e).1.0)
 
           pub reading_past : (i < end) × (end ≤ length line)
           reading_past =
@@ -176,9 +182,9 @@ module _ (line : Text) (before : List ℕ) where
               record {
                 place = reading_past.1;
                 over = rw rest (word_over (drop (i + 1) line));
-                room = omega (arith, o.room, ended, number_length (word_at line (i + 1)) number);
+                room = omega (arith, o.room, ended, number_length (word_at line (i + 1)) is_one);
                 size = rw (length-set numbers n value) o.size;
                 written = o.written ∙ (ap (put_at numbers n) numbered ∙ put_next numbers n value _ reading_fits);
-                all = o.all ∙ rw (later, number);
+                all = o.all ∙ rw (later, is_one);
                 count = omega (arith, o.count, ap length later);
               }

@@ -4,11 +4,9 @@
 ghost use Rattle.std.specs.Prelude.{◌≡◌, length, ◌≤◌};
 ghost use Rattle.text_decimal.specs.Put.{put_at};
 ghost use Rattle.text_decimal.specs.Word.{first_word};
-ghost use Rattle.script_line.specs.Line.{words, behind, leading, asked as Line·asked, same, most_bytes, most_numbers};
+ghost use Rattle.script_line.specs.Line.{words, behind, leading, asked, same, most_bytes, most_numbers};
 ghost use Rattle.script_line.specs.Line.{read_line, numbers_of, is_link};
 ghost use Rattle.script_line.specs.Count.{count_of};
-
-use text_decimal::Number;
 
 // What a line asks. Its numbers are lent beside it; `Open` says how many links its route has.
 #[derive(Clone, Copy)]
@@ -20,47 +18,18 @@ pub enum Line {
     Tick,
 }
 
-// How many numbers stand behind the first word, or a word there is no number.
-#[derive(Drop)]
-enum Count {
-    Broken,
-    All(usize),
-}
-
 // A line has at most so many bytes, and a buffer for its numbers so many places: each number takes at least two bytes.
 const MOST_BYTES: usize = 255;
 
 pub const MOST_NUMBERS: usize = 128;
 
-// Where the first word of a line ends.
-fn word_end(line: &[u8]) -> usize
-    ensures { result ≡ length (first_word line.now) }
-{
-    let mut i: usize = 0;
-    while i < line.len() {
-        if line[i] == b' ' {
-            return i;
-        }
-        i += 1;
-    }
-    i
-}
-
 // Whether a line's first word is `word`.
+#[tactic(auto, using(text_decimal::proofs::Laws::Word::word_front, crate::proofs::Laws::Same::same_pointwise))]
 fn begins(line: &[u8], word: &[u8]) -> bool
     ensures { result ≡ same (first_word line.now) word.now }
 {
-    if word_end(line) != word.len() {
-        return false;
-    }
-    let mut i: usize = 0;
-    while i < word.len() {
-        if line[i] != word[i] {
-            return false;
-        }
-        i += 1;
-    }
-    true
+    let end = text_decimal::word_end(line);
+    &line[..end] == word
 }
 
 pub fn is_link(line: &[u8]) -> bool
@@ -70,56 +39,43 @@ pub fn is_link(line: &[u8]) -> bool
 }
 
 // What is asked by a line with so many numbers.
+#[tactic(auto, using(crate::proofs::Asking::link_found, crate::proofs::Asking::open_found, crate::proofs::Asking::offer_found, crate::proofs::Asking::tick_found, crate::proofs::Asking::none_found))]
 fn asked(line: &[u8], count: usize) -> Line
-    ensures { result ≡ Line·asked (first_word line.now) count }
+    ensures { result ≡ asked (first_word line.now) count }
 {
-    if begins(line, b"link") {
-        if count == 4 {
-            return Line::Link;
-        }
-        return Line::Bad;
+    if begins(line, b"link") && count == 4 {
+        Line::Link
+    } else if begins(line, b"open") && count >= 4 {
+        Line::Open(count - 4)
+    } else if begins(line, b"offer") && count == 2 {
+        Line::Offer
+    } else if begins(line, b"tick") && count == 1 {
+        Line::Tick
+    } else {
+        Line::Bad
     }
-    if begins(line, b"open") {
-        if count < 4 {
-            return Line::Bad;
-        }
-        return Line::Open(count - 4);
-    }
-    if begins(line, b"offer") {
-        if count == 2 {
-            return Line::Offer;
-        }
-        return Line::Bad;
-    }
-    if begins(line, b"tick") {
-        if count == 1 {
-            return Line::Tick;
-        }
-    }
-    Line::Bad
 }
 
-// The numbers behind the first word, up to the first word that is none.
-fn read_numbers(line: &[u8], numbers: &mut [u64]) -> Count
+// The numbers behind the first word: how many they are, unless a word there is no number. They are written up to that word.
+fn read_numbers(line: &[u8], numbers: &mut [u64]) -> Option<usize>
     requires line_len_bound { length line.now ≤ most_bytes }
     requires most_numbers_in_bounds { most_numbers ≤ length numbers.old }
     ensures value { result ≡ count_of (behind (words line.now)) }
     ensures numbers_after { numbers.new ≡ put_at numbers.old 0 (leading (behind (words line.now))) }
 {
-    let mut n: usize = 0;
-    let mut i = word_end(line);
-    while i < line.len() {
-        let Number::Value(value, end) = text_decimal::read(line, i + 1) else {
-            return Count::Broken;
-        };
-        numbers[n] = value;
-        n += 1;
-        i = end;
+    let mut count: usize = 0;
+    let mut end = text_decimal::word_end(line);
+    while end < line.len() {
+        let number = text_decimal::read(line, end + 1)?;
+        numbers[count] = number.value;
+        count += 1;
+        end = number.end;
     }
-    Count::All(n)
+    Some(count)
 }
 
 // What a line asks, and its numbers at the front of `numbers`, as far as they read.
+#[tactic(auto, using(crate::proofs::Laws::Cut::long_bad, crate::proofs::Laws::Cut::long_numbers, crate::proofs::Whole::short_bad, crate::proofs::Whole::short_asked, crate::proofs::Whole::short_numbers, text_decimal::proofs::Laws::Put::put_none))]
 pub fn read(line: &[u8], numbers: &mut [u64; MOST_NUMBERS]) -> Line
     ensures value { result ≡ read_line line.now }
     ensures numbers_after { numbers.new ≡ put_at numbers.old 0 (numbers_of line.now) }
@@ -127,8 +83,8 @@ pub fn read(line: &[u8], numbers: &mut [u64; MOST_NUMBERS]) -> Line
     if line.len() > MOST_BYTES {
         return Line::Bad;
     }
-    let Count::All(n) = read_numbers(line, numbers) else {
-        return Line::Bad;
-    };
-    asked(line, n)
+    match read_numbers(line, numbers) {
+        Some(count) => asked(line, count),
+        None => Line::Bad,
+    }
 }

@@ -11,10 +11,10 @@ use lib.ListN.{length, take}
 use lib.Seq.{take_all, length-take-le}
 use Rattle.text_decimal.specs.Decimal.{Text}
 use Rattle.text_decimal.specs.Word.{space, first_word}
+use Rattle.text_decimal.proofs.Laws.Word.{word_space, word_more}
 use Rattle.script_line.specs.declared.Line.TheVariants.{Bad}
 use Rattle.script_line.specs.Phrase.{link_word}
 use Rattle.script_line.specs.Line.{most_bytes, read_line, numbers_of, is_link}
-use Rattle.script_line.proofs.Laws.Words.{word_space, word_more}
 use Rattle.script_line.proofs.Laws.Same.{same_cut}
 
 -- a line that is too long

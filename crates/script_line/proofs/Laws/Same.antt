@@ -1,12 +1,14 @@
 -- The test whether two texts are the same.
 use Prim.Native.Nat.{ℕ, zero, suc, ◌<◌}
 use mathlib.Core.Path.{◌≡◌, refl}
-use mathlib.Core.Bool.{Bool, true, false, and-eq-true_iff}
+use mathlib.Core.Bool.{true, and-eq-true_iff}
 use mathlib.Core.List.{[], ◌∷◌}
 use native.Mathlib.Omega.{arith}
 use borrow.Author.Tests.{eqb-true}
 use lib.Dec.{eqb}
 use lib.ListN.{length, take}
+use lib.Pointwise.{pointwise}
+use Rattle.std.specs.Prelude.{nat_eq}
 use Rattle.text_decimal.specs.Decimal.{Text}
 use Rattle.script_line.specs.Line.{same}
 
@@ -19,13 +21,6 @@ same_is (x ∷ a) (y ∷ b) e =
     let p = (and-eq-true_iff (eqb x y) (same a b)).0 e in
     rw (eqb-true x y p.0, same_is a b p.1)
 
-pub same_length : (a b : Text) → (length a ≡ length b → ⊥) → same a b ≡ false
-same_length a b h = go (same a b) refl
-  where
-    go : (t : Bool) → same a b ≡ t → same a b ≡ false
-    go true e = absurd (h (rw (same_is a b e)))
-    go false e = e
-
 -- a text that goes on for longer than the other is as different from it when cut
 pub same_cut : (n : ℕ) (a b : Text) → length b < n → same (take n a) b ≡ same a b
 unfolding same
@@ -33,3 +28,11 @@ same_cut zero a b h = absurd (omega arith)
 same_cut (suc n) [] b h = refl
 same_cut (suc n) (x ∷ a) [] h = refl
 same_cut (suc n) (x ∷ a) (y ∷ b) h = rw (same_cut n a b (omega arith))
+
+-- it is the test that `==` is
+pub same_pointwise : (a b : Text) → pointwise nat_eq a b ≡ same a b
+unfolding same
+same_pointwise [] [] = refl
+same_pointwise [] (y ∷ b) = refl
+same_pointwise (x ∷ a) [] = refl
+same_pointwise (x ∷ a) (y ∷ b) = rw (same_pointwise a b)

@@ -9,6 +9,7 @@ use lib.Dec.{leb, eqb}
 use lib.ListN.{length, length-append}
 use Rattle.text_decimal.specs.Decimal.{Text, is_number}
 use Rattle.text_decimal.specs.Word.{first_word}
+use Rattle.text_decimal.proofs.Laws.Digits.{number_length}
 use Rattle.script_line.specs.declared.Line.{Line}
 use Rattle.script_line.specs.declared.Line.TheVariants.{Bad, Link, Open, Offer, Tick}
 use Rattle.script_line.specs.Phrase.{link_word, open_word, offer_word, tick_word}
@@ -16,11 +17,6 @@ use Rattle.script_line.specs.Line.{words, behind, all_numbers, leading, same, as
 use Rattle.script_line.proofs.Laws.Words.{spread, line_is}
 
 -- a number has at least a digit, and a space before it
-pub number_length : (word : Text) → is_number word ≡ true → 1 ≤ length word
-unfolding is_number
-number_length [] e = absurd (let z : ◌≡◌ {A = ℕ} 0 1 = cc in omega arith)
-number_length (d ∷ rest) e = omega arith
-
 leading_short : (some : List Text) → 2 * length (leading some) ≤ length (spread some)
 unfolding leading spread
 leading_short [] = omega arith

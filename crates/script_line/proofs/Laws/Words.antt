@@ -9,6 +9,7 @@ use borrow.Author.Tests.{eqb-true}
 use lib.Dec.{eqb}
 use Rattle.text_decimal.specs.Decimal.{Text}
 use Rattle.text_decimal.specs.Word.{space, first_word}
+use Rattle.text_decimal.proofs.Laws.Word.{word_more, word_space}
 use Rattle.script_line.specs.Line.{longer, words, behind}
 
 -- words with a space before each, and with one space between
@@ -26,23 +27,13 @@ NoSpace [] = Unit
 NoSpace (word ∷ rest) = (first_word word ≡ word) × NoSpace rest
 
 -- a byte that is no space belongs to the first word
-module _ (b : ℕ) (rest : Text) (e : eqb b space ≡ false) where
-  pub word_more : first_word (b ∷ rest) ≡ b ∷ first_word rest
-  unfolding first_word
-  word_more = rw (e, first_word)
+pub words_more : (b : ℕ) (rest : Text) → eqb b space ≡ false → words (b ∷ rest) ≡ longer b (words rest)
+unfolding words
+words_more b rest e = rw (e, words)
 
-  pub words_more : words (b ∷ rest) ≡ longer b (words rest)
-  unfolding words
-  words_more = rw (e, words)
-
-module _ (b : ℕ) (rest : Text) (e : eqb b space ≡ true) where
-  pub word_space : first_word (b ∷ rest) ≡ []
-  unfolding first_word
-  word_space = rw (e, first_word)
-
-  words_space : words (b ∷ rest) ≡ [] ∷ words rest
-  unfolding words
-  words_space = rw (e, words)
+words_space : (b : ℕ) (rest : Text) → eqb b space ≡ true → words (b ∷ rest) ≡ [] ∷ words rest
+unfolding words
+words_space b rest e = rw (e, words)
 
 -- a line has at least one word, and the first is its first word
 pub words_first : (line : Text) → words line ≡ first_word line ∷ behind (words line)
