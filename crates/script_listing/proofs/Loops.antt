@@ -2,10 +2,9 @@
 use Prim.Native.Nat.{ℕ, suc, ◌+◌, ◌-◌, ◌*◌, ◌≤◌, ◌<◌}
 use mathlib.Core.Path.{◌≡◌, refl}
 use mathlib.Core.List.{List, [], ◌∷◌, ◌++◌, append_assoc, append-nil}
-use native.Mathlib.Nat.{add-zero}
 use native.Mathlib.Numerals.{add-one}
 use native.Mathlib.Omega.{arith}
-use lib.ListN.{length, take, drop, set, get_or}
+use lib.ListN.{length, take, drop, get_or}
 use lib.Seq.{take-suc, take_all, drop-cons, length-take-le}
 use Rattle.text_decimal.specs.Decimal.{Text, decimal}
 use Rattle.text_decimal.specs.Word.{space}
@@ -15,21 +14,7 @@ use Rattle.store.specs.Layout.{number_at}
 use Rattle.script_line.specs.Phrase.{spaced}
 use Rattle.script_listing.specs.Listing.{send_word, line_of, send_line, send_in, send_lines_in, share, shares_to}
 use Rattle.script_listing.proofs.Laws.Lengths.{spaced_length, send_length, sends_length, share_length, shares_length}
-use Rattle.script_listing.proofs.Putting.{Putting, putting_none, putting_more, putting_byte, putting_as, putting_done}
-
--- a text, byte by byte
-module _ (text old : List ℕ) (at : ℕ) (room : at + length text ≤ length old) where
-  pub text_none : Putting old at [] old (at + 0)
-  text_none = rw (add-zero at) (putting_none old at (omega arith))
-
-  module _ (i : ℕ) (out : List ℕ) (s : Putting old at (take i text) out (at + i)) where
-    pub text_more : i < length text → Putting old at (take (i + 1) text) (set out (at + i) (get_or text i 0)) (at + (i + 1))
-    text_more h =
-        let e : at + (i + 1) ≡ at + i + 1 = omega arith in
-        rw (e, add-one i, take-suc text i 0 h) (putting_byte old at _ out (at + i) s (get_or text i 0) (omega arith))
-
-    pub text_done : length text ≤ i → out ≡ put_at old at text
-    text_done h = (putting_as old at _ out (at + i) s text (take_all i text h)).same
+use Rattle.script_listing.proofs.Putting.{Putting, putting_none, putting_more}
 
 -- numbers, a space before each
 spaced_more : (a b : List ℕ) → spaced (a ++ b) ≡ spaced a ++ spaced b
@@ -58,12 +43,12 @@ module _ (numbers : List ℕ) where
       next = space ∷ decimal (get_or numbers i 0)
 
       pub spaced_step : i < length numbers → (later : List ℕ) (then : ℕ)
-          → (then ≡ end + length next) × (later ≡ put_at out end next)
+          → then ≡ end + length next → later ≡ put_at out end next
           → Putting old from (spaced (take (i + 1) numbers)) later then
-      spaced_step h later then p =
+      spaced_step h later then e p =
           let few = (decimal_length (get_or numbers i 0)).1 in
           rw (spaced_next i h)
-          (putting_more old from _ out end s next (omega (arith, spaced_fits h)) later then p.1 p.0)
+          (putting_more old from _ out end s next (omega (arith, spaced_fits h)) later then p e)
 
       pub spaced_done : length numbers ≤ i → Putting old from (spaced numbers) out end
       spaced_done h = rw (take_all i numbers h) at s
@@ -99,23 +84,19 @@ module _ (numbers : List ℕ) where
     sends_none = putting_none old at (omega arith)
 
     module _ (i : ℕ) (out : List ℕ) (end : ℕ) (s : Putting old at (send_lines_in numbers i) out end) where
-      pub sends_done : i ≤ count → count ≤ i
-          → (end ≡ at + length (send_lines_in numbers count)) × (out ≡ put_at old at (send_lines_in numbers count))
-      sends_done h k = let e : i ≡ count = omega arith in rw e at (putting_done old at _ out end s)
-
       pub sends_fit : i < count → end + 110 ≤ length old
       sends_fit h = omega (arith, s.place, sends_length numbers i)
 
       pub sends_more : i < count → 5 * count ≤ length numbers → (later : List ℕ) (then : ℕ)
-          → (then ≡ end + length (line_of send_word (lent i))) × (later ≡ put_at out end (line_of send_word (lent i)))
+          → then ≡ end + length (line_of send_word (lent i)) → later ≡ put_at out end (line_of send_word (lent i))
           → Putting old at (send_lines_in numbers (i + 1)) later then
       unfolding send_lines_in
-      sends_more h enough later then p =
+      sends_more h enough later then f p =
           let e = five_lent count i enough h in
           let x = send_in numbers i in
           rw (add-one i)
           (putting_more old at _ out end s (send_line x) (omega (arith, sends_fit h, send_length x)) later then
-          (rw e at p.1) (rw e at p.0))
+          (rw e at p) (rw e at f))
 
 -- what a channel was given on the links of its route
 module _ (responses delays reserved old : List ℕ) (at hops : ℕ) (room : at + 63 * hops ≤ length old) where
@@ -124,20 +105,15 @@ module _ (responses delays reserved old : List ℕ) (at hops : ℕ) (room : at +
   shares_none = putting_none old at (omega arith)
 
   module _ (j : ℕ) (out : List ℕ) (end : ℕ) (s : Putting old at (shares_to responses delays reserved j) out end) where
-    pub shares_done : j ≤ hops → hops ≤ j
-        → (end ≡ at + length (shares_to responses delays reserved hops))
-        × (out ≡ put_at old at (shares_to responses delays reserved hops))
-    shares_done h k = let e : j ≡ hops = omega arith in rw e at (putting_done old at _ out end s)
-
     abbrev given : Text
     given = share (number_at responses j) (number_at delays j) (number_at reserved j)
 
     pub shares_fit : j < hops → end + 63 ≤ length old
     shares_fit h = omega (arith, s.place, shares_length responses delays reserved j)
 
-    pub shares_more : j < hops → (later : List ℕ) (then : ℕ) → (then ≡ end + length given) × (later ≡ put_at out end given)
+    pub shares_more : j < hops → (later : List ℕ) (then : ℕ) → then ≡ end + length given → later ≡ put_at out end given
         → Putting old at (shares_to responses delays reserved (j + 1)) later then
     unfolding shares_to
-    shares_more h later then p =
+    shares_more h later then e p =
         let few = share_length (number_at responses j) (number_at delays j) (number_at reserved j) in
-        rw (add-one j) (putting_more old at _ out end s given (omega (arith, shares_fit h)) later then p.1 p.0)
+        rw (add-one j) (putting_more old at _ out end s given (omega (arith, shares_fit h)) later then p e)

@@ -39,6 +39,3 @@ module _ (old : List ℕ) (at : ℕ) where
 
     pub putting_as : (whole : Text) → text ≡ whole → Putting old at whole out end
     putting_as whole e = rw (← e) s
-
-    pub putting_done : (end ≡ at + length text) × (out ≡ put_at old at text)
-    putting_done = (s.place, s.same)

@@ -5,31 +5,28 @@ ghost use Rattle.std.specs.Prelude.{◌≡◌, ◌+◌, ◌*◌, ◌≤◌, ◌�
 ghost use Rattle.text_decimal.specs.Decimal.{decimal};
 ghost use Rattle.text_decimal.specs.Put.{put_at};
 ghost use Rattle.script_line.specs.Phrase.{phrase};
-ghost use Rattle.script_listing.specs.Listing.{line_of, send_lines_in, share as Listing·share, shares_to, channel_line};
+ghost use Rattle.script_listing.specs.Listing.{line_of, send_lines_in, share, shares_to, channel_line};
 
 use kinds::Route;
-
-const LINE_FEED: u8 = b'\n';
 
 // The buffer of bytes that a listing goes through, and the last place in it from which all that a slot writes fits into it.
 pub const BUFFER: usize = 65_536;
 
 pub const LAST_FOR_SLOT: usize = 63_776;
 
+#[tactic(auto, using(text_decimal::proofs::Laws::Put::put_part))]
 fn put_text(out: &mut [u8], at: usize, text: &[u8]) -> usize
     requires { at + length text.now ≤ length out.old }
     ensures value { result ≡ at + length text.now }
     ensures out_after { out.new ≡ put_at out.old at text.now }
 {
-    let mut i: usize = 0;
-    while i < text.len() {
-        out[at + i] = text[i];
-        i += 1;
-    }
-    at + text.len()
+    let end = at + text.len();
+    out[at..end].copy_from_slice(text);
+    end
 }
 
 // A byte, and a number behind it.
+#[tactic(auto, using(text_decimal::proofs::Laws::Put::put_next))]
 fn put_number(out: &mut [u8], at: usize, byte: u8, n: u64) -> usize
     requires { at + 21 ≤ length out.old }
     ensures value { result ≡ at + length (byte ∷ decimal n) }
@@ -46,10 +43,8 @@ fn put_phrase(out: &mut [u8], at: usize, word: &[u8], numbers: &[u64]) -> usize
     ensures out_after { out.new ≡ put_at out.old at (phrase word.now numbers.now) }
 {
     let mut end = put_text(out, at, word);
-    let mut i: usize = 0;
-    while i < numbers.len() {
-        end = put_number(out, end, b' ', numbers[i]);
-        i += 1;
+    for &n in numbers {
+        end = put_number(out, end, b' ', n);
     }
     end
 }
@@ -61,33 +56,30 @@ pub fn line(out: &mut [u8], at: usize, word: &[u8], numbers: &[u64]) -> usize
     ensures out_after { out.new ≡ put_at out.old at (line_of word.now numbers.now) }
 {
     let end = put_phrase(out, at, word, numbers);
-    out[end] = LINE_FEED;
+    out[end] = b'\n';
     end + 1
 }
 
 // The lines of `count` sends, five numbers each. One takes at most 110 bytes.
 pub fn sends(out: &mut [u8], at: usize, numbers: &[u64], count: usize) -> usize
-    requires count_in_bounds { 5 * count ≤ length numbers.now }
-    requires count_in_bounds_2 { at + 110 * count ≤ length out.old }
+    requires enough { 5 * count ≤ length numbers.now }
+    requires room { at + 110 * count ≤ length out.old }
     ensures value { result ≡ at + length (send_lines_in numbers.now count) }
     ensures out_after { out.new ≡ put_at out.old at (send_lines_in numbers.now count) }
 {
     let mut end = at;
-    let mut i: usize = 0;
-    while i < count {
-        let from = 5 * i;
-        let to = from + 5;
-        end = line(out, end, b"send", &numbers[from..to]);
-        i += 1;
+    for i in 0..count {
+        end = line(out, end, b"send", &numbers[5 * i..5 * i + 5]);
     }
     end
 }
 
 // What a channel was given on one link.
+#[tactic(auto, using(text_decimal::proofs::Laws::Decimal::decimal_length))]
 fn put_share(out: &mut [u8], at: usize, response: u64, delay: u64, reserved: u64) -> usize
     requires { at + 63 ≤ length out.old }
-    ensures value { result ≡ at + length (Listing·share response delay reserved) }
-    ensures out_after { out.new ≡ put_at out.old at (Listing·share response delay reserved) }
+    ensures value { result ≡ at + length (share response delay reserved) }
+    ensures out_after { out.new ≡ put_at out.old at (share response delay reserved) }
 {
     let mut end = put_number(out, at, b' ', response);
     end = put_number(out, end, b'/', delay);
@@ -104,16 +96,14 @@ fn put_shares(
     hops: usize,
 ) -> usize
     requires hops_bound { hops ≤ 8 }
-    requires hops_in_bounds { at + 63 * hops ≤ length out.old }
+    requires room { at + 63 * hops ≤ length out.old }
     ensures value { result ≡ at + length (shares_to responses.now delays.now reserved.now hops) }
     ensures out_after { out.new ≡ put_at out.old at
         (shares_to responses.now delays.now reserved.now hops) }
 {
     let mut end = at;
-    let mut j: usize = 0;
-    while j < hops {
+    for j in 0..hops {
         end = put_share(out, end, responses[j], delays[j], reserved[j]);
-        j += 1;
     }
     end
 }
@@ -130,15 +120,14 @@ pub fn channel(
     hops: usize,
 ) -> usize
     requires hops_bound { hops ≤ 8 }
-    requires at_in_bounds { at + 533 ≤ length out.old }
+    requires room { at + 533 ≤ length out.old }
     ensures value { result ≡ at + length
         (channel_line channel responses.now delays.now reserved.now hops) }
     ensures out_after { out.new ≡ put_at out.old at
         (channel_line channel responses.now delays.now reserved.now hops) }
 {
-    let number = [channel];
-    let place = put_phrase(out, at, b"channel", &number);
+    let place = put_phrase(out, at, b"channel", &[channel]);
     let end = put_shares(out, place, responses, delays, reserved, hops);
-    out[end] = LINE_FEED;
+    out[end] = b'\n';
     end + 1
 }
