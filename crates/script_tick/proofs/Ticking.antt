@@ -1,7 +1,6 @@
 -- The tick in pieces: what stands in the buffer so far, and what is still to come.
 use Prim.Native.Nat.{ℕ, ◌+◌, ◌-◌, ◌≤◌, ◌<◌}
 use mathlib.Core.Path.{◌≡◌, refl, sym, ap, ◌∙◌}
-use mathlib.Core.Bool.{Bool, true, false}
 use mathlib.Core.List.{List, [], ◌∷◌, ◌++◌, append_assoc, append-nil, append_cancel_left}
 use native.Mathlib.Omega.{arith}
 use lib.ListN.{length, take}
@@ -13,8 +12,8 @@ use Rattle.store.specs.Layout.{Store, clock_of}
 use Rattle.script_listing.specs.Listing.{slot_word, slot_line}
 use Rattle.script_listing.proofs.Laws.Lengths.{line_length}
 use Rattle.script_listing.specs.Buffer.{buffer_length, last_for_slot}
-use Rattle.script_tick.specs.Tick.{tick_out, tick_store, rest_out, rest_store}
-use Rattle.script_tick.proofs.Steps.{Goes, part_none}
+use Rattle.script_tick.specs.Tick.{tick_out, tick_store, Goes}
+use Rattle.script_tick.proofs.Steps.{part_none}
 
 module _ (from end : ℕ) (h : from ≤ end) where
   up_to : (all : List ℕ) → take end all ≡ take from all ++ part_of all from end
@@ -39,12 +38,12 @@ pub record Ticking (first : Store) (slots : ℕ) (old : List ℕ) (at : ℕ) (w 
   pub few : left ≤ slots
   pub less : last_for_slot < end → left < slots
 
--- What a tick ends with: as `Goes` has it, and the tick is over or not.
-abbrev pub Piece : (first : Store) → (slots : ℕ) → (old : List ℕ) → (at : ℕ) → (over : Bool) → (w : Store) → (out : List ℕ)
-    → (end left : ℕ) → Type 0
-Piece first slots old at over w out end left =
-    (tick_out first slots ≡ part_of out at end ++ rest_out over w left) × ((tick_store first slots ≡ rest_store over w left)
-    × ((take at out ≡ take at old) × (((at ≤ end) × (end ≤ buffer_length)) × (over ≡ false → left < slots))))
+-- What a tick ends with: no slot is left, and its `slot` line is written.
+pub record Done (first : Store) (slots : ℕ) (old : List ℕ) (at : ℕ) (w : Store) (out : List ℕ) (end : ℕ) : Type 0 where
+  pub listed : tick_out first slots ≡ part_of out at end ++ []
+  pub stored : tick_store first slots ≡ w
+  pub front : take at out ≡ take at old
+  pub within : (at ≤ end) × (end ≤ buffer_length)
 
 module _ (first : Store) (slots : ℕ) (old : List ℕ) (at : ℕ) where
   pub ticking_none : at ≤ last_for_slot → Ticking first slots old at first old at slots
@@ -73,22 +72,15 @@ module _ (first : Store) (slots : ℕ) (old : List ℕ) (at : ℕ) where
     pub ticking_more : (later : Store) (rest : ℕ) (full : List ℕ) (then : ℕ) → Goes w left out end later rest full then
         → Ticking first slots old at later full then rest
     ticking_more later rest full then g =
-        let kept = g.1.1.0 in
-        let ends = g.1.1.1.0 in
-        let less = g.1.1.1.1 in
         record {
-          listed = more_listed full then kept ends.0 (tick_out later rest) g.0;
-          stored = t.stored ∙ g.1.0;
-          front = more_front full then kept ends.0;
-          from = omega (arith, t.from);
-          room = ends.1;
-          few = omega (arith, t.few);
-          less = λ k. omega (arith, t.few);
+          listed = more_listed full then g.front g.within.0 (tick_out later rest) g.listed;
+          stored = t.stored ∙ g.stored;
+          front = more_front full then g.front g.within.0;
+          from = omega (arith, t.from, g.within.0);
+          room = g.within.1;
+          few = omega (arith, t.few, g.fewer);
+          less = λ k. omega (arith, t.few, g.fewer);
         }
-
-    -- the buffer is full
-    pub ticking_full : last_for_slot < end → Piece first slots old at false w out end left
-    ticking_full h = (t.listed, (t.stored, (t.front, ((t.from, t.room), λ e. t.less h))))
 
     -- no slot is left
     module _ (none : left ≡ 0) (size : length out ≡ buffer_length) (h : end ≤ last_for_slot) where
@@ -101,18 +93,15 @@ module _ (first : Store) (slots : ℕ) (old : List ℕ) (at : ℕ) where
       last_store = rw none
 
       pub ticking_done : (clock : ℕ) → clock ≡ clock_of w → (full : List ℕ) (then : ℕ) → full ≡ put_at out end (slot_line clock)
-          → then ≡ end + length (slot_line clock) → Piece first slots old at true w full then 0
+          → then ≡ end + length (slot_line clock) → Done first slots old at w full then
       ticking_done clock told full then put ends =
           let l = line_length slot_word (clock ∷ []) in
           let fits : end + length (slot_line clock) ≤ length out = omega arith in
           let kept : take end full ≡ take end out = rw put (take_put out end (slot_line clock) (omega arith)) in
-          let part : part_of full end then ≡ slot_line clock = rw (put, ends) (part_put out end (slot_line clock) fits) in (
-            more_listed full then kept (omega arith) [] (last_line ∙ rw (part, told, append-nil)),
-            (
-              t.stored ∙ last_store,
-              (
-                more_front full then kept (omega arith),
-                (((omega (arith, t.from)), (omega arith)), λ e. absurd (let z : ◌≡◌ {A = ℕ} 0 1 = cc in omega arith)),
-              ),
-            ),
-          )
+          let part : part_of full end then ≡ slot_line clock = rw (put, ends) (part_put out end (slot_line clock) fits) in
+          record {
+            listed = more_listed full then kept (omega arith) [] (last_line ∙ rw (part, told, append-nil));
+            stored = t.stored ∙ last_store;
+            front = more_front full then kept (omega arith);
+            within = (omega (arith, t.from), omega arith);
+          }

@@ -2,10 +2,10 @@
 // is run piece by piece. Slots in which nothing can be sent are skipped, however many there are.
 #![tactic(auto)]
 
-ghost use Rattle.std.specs.Prelude.{◌≡◌, false, ◌++◌, ◌≤◌, ◌<◌, take};
+ghost use Rattle.std.specs.Prelude.{◌≡◌, ◌++◌, ◌≤◌, ◌<◌, take, IfSome};
 ghost use Rattle.text_decimal.specs.Put.{part_of};
 ghost use Rattle.script_listing.specs.Buffer.{buffer_length, last_for_slot};
-ghost use Rattle.script_tick.specs.Tick.{tick_out, tick_store, rest_out, rest_store};
+ghost use Rattle.script_tick.specs.Tick.{Goes, tick_out, tick_store, rest_out, rest_store};
 
 use kinds::Network;
 use script_listing::{BUFFER, LAST_FOR_SLOT};
@@ -19,45 +19,35 @@ struct Stepped {
     left: u64,
 }
 
-// The same, and whether the tick is over, with its `slot` line.
+// The same of a piece of a tick. Where the tick is over, with its `slot` line, no slots are left: `None`.
 #[derive(Clone, Copy)]
 pub struct Ticked {
     pub at: usize,
-    pub left: u64,
-    pub over: bool,
+    pub left: Option<u64>,
 }
 
 // One slot, and after one that sent nothing those in which nothing can be sent; a slot that is refused is the last.
 fn step(store: &mut [u64; store::LENGTH], left: u64, out: &mut [u8; BUFFER], at: usize) -> Stepped
-    requires left_nonzero { 0 < left }
-    requires at_le_last_for_slot { at ≤ last_for_slot }
-    ensures left_value { tick_out store.old left
-        ≡ part_of out.new at result.at ++ tick_out store.new result.left }
-    ensures left_value_2 { tick_store store.old left ≡ tick_store store.new result.left }
-    ensures out_unchanged { take at out.new ≡ take at out.old }
-    ensures at_le_at { (at ≤ result.at) × (result.at ≤ buffer_length) }
-    ensures left_lt_left { result.left < left }
+    requires some { 0 < left }
+    requires room { at ≤ last_for_slot }
+    ensures { Goes store.old left out.old at store.new result.left out.new result.at }
 {
     let mut numbers = [0u64; 5 * Network::MOST_LINKS];
     let mut number: u64 = 0;
     let mut place: u64 = 0;
     let sends = slot::slot(store, &mut numbers, &mut number, &mut place);
     if number != 0 {
-        let refusal = [number, place];
-        let end = script_listing::line(out, at, b"refused", &refusal);
+        let end = script_listing::line(out, at, b"refused", &[number, place]);
         return Stepped { at: end, left: 0 };
     }
     let rest = left - 1;
     let count = sends.len() / 5;
     if count == 0 {
         let Waited::Slots(skipped) = slot_wait::skip(store, rest) else {
-            return Stepped { at: at, left: rest }; // nothing is moved on; the next slot is refused too, and says why
+            return Stepped { at, left: rest }; // nothing is moved on; the next slot is refused too, and says why
         };
         let later = rest - skipped;
-        return Stepped {
-            at: at,
-            left: later,
-        };
+        return Stepped { at, left: later };
     }
     let end = script_listing::sends(out, at, sends, count);
     Stepped {
@@ -75,24 +65,22 @@ pub fn tick(
     at: usize,
 ) -> Ticked
     requires { at ≤ last_for_slot }
-    ensures slots_value { tick_out store.old slots
-        ≡ part_of out.new at result.at ++ rest_out result.over store.new result.left }
-    ensures slots_value_2 { tick_store store.old slots ≡ rest_store result.over store.new result.left }
-    ensures out_unchanged { take at out.new ≡ take at out.old }
-    ensures at_le_at { (at ≤ result.at) × (result.at ≤ buffer_length) }
-    ensures left_lt_slots { result.over ≡ false → result.left < slots }
+    ensures listed { tick_out store.old slots
+        ≡ part_of out.new at result.at ++ rest_out result.left store.new }
+    ensures stored { tick_store store.old slots ≡ rest_store result.left store.new }
+    ensures front { take at out.new ≡ take at out.old }
+    ensures within { (at ≤ result.at) × (result.at ≤ buffer_length) }
+    ensures fewer { IfSome result.left (λ left. left < slots) }
 {
     let mut end = at;
     let mut left = slots;
     while end <= LAST_FOR_SLOT {
         let over = left == 0;
         if over {
-            let clock = [head::clock(store)];
-            let last = script_listing::line(out, end, b"slot", &clock);
+            let last = script_listing::line(out, end, b"slot", &[head::clock(store)]);
             return Ticked {
                 at: last,
-                left: 0,
-                over: true,
+                left: None,
             };
         }
         let stepped = step(store, left, out, end);
@@ -101,7 +89,6 @@ pub fn tick(
     }
     Ticked {
         at: end,
-        left: left,
-        over: false,
+        left: Some(left),
     }
 }
