@@ -1,3 +1,2 @@
 mod Opened
-mod Ends
 pub mod Laws

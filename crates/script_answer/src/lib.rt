@@ -20,8 +20,7 @@ pub fn put_refused(out: &mut [u8], at: usize, number: u64, place: u64) -> usize
     ensures value { result ≡ at + length (refused_line number place) }
     ensures out_after { out.new ≡ put_at out.old at (refused_line number place) }
 {
-    let refusal = [number, place];
-    script_listing::line(out, at, b"refused", &refusal)
+    script_listing::line(out, at, b"refused", &[number, place])
 }
 
 pub fn put_bad(out: &mut [u8; BUFFER], at: usize, count: u64) -> usize
@@ -29,8 +28,7 @@ pub fn put_bad(out: &mut [u8; BUFFER], at: usize, count: u64) -> usize
     ensures value { result ≡ at + length (bad_line count) }
     ensures out_after { out.new ≡ put_at out.old at (bad_line count) }
 {
-    let number = [count];
-    script_listing::line(out, at, b"bad", &number)
+    script_listing::line(out, at, b"bad", &[count])
 }
 
 fn open(
@@ -40,8 +38,8 @@ fn open(
     out: &mut [u8; BUFFER],
     at: usize,
 ) -> usize
-    requires hops_in_bounds { 4 + hops ≤ length numbers.now }
-    requires at_le_last_for_line { at ≤ last_for_line }
+    requires route { 4 + hops ≤ length numbers.now }
+    requires room { at ≤ last_for_line }
     ensures value { result ≡ at + length (open_out (open_answer store.old (request_in numbers.now hops)) hops) }
     ensures store_after { store.new ≡ open_store store.old (request_in numbers.now hops) }
     ensures out_after { out.new
@@ -55,14 +53,16 @@ fn open(
         numbers[3],
         &numbers[4..4 + hops],
     );
-    let outcome = opening.outcome;
-    match outcome {
-        Outcome::Accepted(channel) => {
-            let responses = opening.responses;
-            let delays = opening.delays;
-            let reserved = opening.reserved;
-            script_listing::channel(out, at, channel, &responses, &delays, &reserved, hops)
-        }
+    match opening.outcome {
+        Outcome::Accepted(channel) => script_listing::channel(
+            out,
+            at,
+            channel,
+            &opening.responses,
+            &opening.delays,
+            &opening.reserved,
+            hops,
+        ),
         Outcome::Refused(number, place) => put_refused(out, at, number, place),
     }
 }
@@ -80,8 +80,7 @@ fn offer(
     ensures out_after { out.new
         ≡ put_at out.old at (offer_out (offer_answer store.old channel packets) channel) }
 {
-    let offered = offer::offer(store, channel, packets);
-    match offered {
+    match offer::offer(store, channel, packets) {
         Offered::Accepted(message, logical) => {
             let accepted = [channel, message, logical];
             script_listing::line(out, at, b"accept", &accepted)
@@ -91,6 +90,7 @@ fn offer(
 }
 
 // Does what a line asks, but for the slots of a `tick`: where the listing goes on.
+#[tactic(auto, using(text_decimal::proofs::Laws::Put::put_none))]
 pub fn answer(
     store: &mut [u64; store::LENGTH],
     asked: Line,
@@ -99,8 +99,8 @@ pub fn answer(
     out: &mut [u8; BUFFER],
     at: usize,
 ) -> usize
-    requires asked_bound { asks_of asked ≤ most_numbers }
-    requires at_le_last_for_line { at ≤ last_for_line }
+    requires few { asks_of asked ≤ most_numbers }
+    requires room { at ≤ last_for_line }
     ensures value { result ≡ at + length (asked_out store.old asked numbers.now count) }
     ensures store_after { store.new ≡ asked_store store.old asked numbers.now }
     ensures out_after { out.new
