@@ -9,6 +9,7 @@ use lib.ListN.{length, take, drop, length-drop, get_or-append}
 use lib.Seq.{take-append-le, drop-append-le}
 use Rattle.text_decimal.specs.Decimal.{Text}
 use Rattle.text_decimal.specs.Put.{put_at}
+use Rattle.text_decimal.proofs.Laws.Put.{put_none}
 use Rattle.store.specs.Layout.{Store, number_at}
 use Rattle.script_line.specs.declared.Line.{Line}
 use Rattle.script_line.specs.declared.Line.TheVariants.{Bad, Link, Open, Offer, Tick}
@@ -68,3 +69,6 @@ asks_fit text = go (read_line text) refl
 
 pub asks_few : (text : Text) → asks_of (read_line text) ≤ 128
 asks_few text = omega (arith, asks_fit text, numbers_most text)
+
+-- a line does what was read of it, and nothing where nothing is written
+pub ruleset as_read = (answered_front, heard_front, asks_fit, asks_few, put_none)

@@ -1,5 +1,5 @@
 -- What a line of a script does and writes: document 01, "The program's listing".
-use Rattle.std.specs.Prelude.{ℕ, suc, ◌*◌, true, false, List, [], ◌++◌, ltb, take}
+use Rattle.std.specs.Prelude.{ℕ, suc, ◌*◌, true, false, Option, None, Some, List, [], ◌++◌, ltb, take}
 use Rattle.text_decimal.specs.Decimal.{Text}
 use Rattle.text_decimal.specs.Put.{put_at}
 use Rattle.store.specs.Layout.{Store, number_at}
@@ -13,23 +13,21 @@ use Rattle.script_listing.specs.Listing.{links_line, refused_line, bad_line}
 use Rattle.script_answer.specs.Answer.{asked_store, asked_out}
 use Rattle.script_play.specs.declared.Phase.{Phase}
 use Rattle.script_play.specs.declared.Phase.TheVariants.{Before, Running, Over}
-use Rattle.script_play.specs.declared.Next.{Next}
-use Rattle.script_play.specs.declared.Next.TheVariants.{Line, Slots}
 
 -- After a line: the phase, what comes next, the store, and what was written.
 pub record Step : Type 0 where
   pub phase : Phase
-  pub next : Next
+  pub next : Option ℕ
   pub store : Store
   pub out : Text
 
 -- A line of a running room, the `count`th of the script. The slots of a `tick` come next.
-abbrev pub next_of : Asked → (numbers : List ℕ) → Next
-next_of Bad numbers = Line
-next_of Link numbers = Line
-next_of (Open hops) numbers = Line
-next_of Offer numbers = Line
-next_of Tick numbers = Slots (number_at numbers 0)
+abbrev pub next_of : Asked → (numbers : List ℕ) → Option ℕ
+next_of Bad numbers = None
+next_of Link numbers = None
+next_of (Open hops) numbers = None
+next_of Offer numbers = None
+next_of Tick numbers = Some (number_at numbers 0)
 
 abbrev pub answered : Store → Asked → (numbers : List ℕ) → (count : ℕ) → Step
 answered w asked numbers count = record {
@@ -41,9 +39,9 @@ answered w asked numbers count = record {
 
 -- Set-up of the first n links that came. "A refused set-up prints `refused` and ends the run."
 abbrev pub started_on : SetUp → Store → (n : ℕ) → Step
-started_on Ready w n = record { phase = Running; next = Line; store = w; out = links_line n }
+started_on Ready w n = record { phase = Running; next = None; store = w; out = links_line n }
 started_on (SetUp-as-Refused number place) w n =
-    record { phase = Over; next = Line; store = w; out = refused_line number place }
+    record { phase = Over; next = None; store = w; out = refused_line number place }
 
 unfoldable pub started : Store → (links : List ℕ) → (n : ℕ) → Step
 started w links n = started_on (set_up_answer w (take (4 * n) links)) (set_up_store w (take (4 * n) links)) n
@@ -76,10 +74,10 @@ abbrev pub kept : (links : List ℕ) → (n : ℕ) → (numbers : List ℕ) → 
 kept links n numbers = elim (ltb n most_kept) [ true ↦ put_at links (4 * n) (take 4 numbers) | false ↦ links ]
 
 abbrev pub bad_link : Store → (n count : ℕ) → Step
-bad_link w n count = record { phase = Before n; next = Line; store = w; out = bad_line count }
+bad_link w n count = record { phase = Before n; next = None; store = w; out = bad_line count }
 
 abbrev pub link_heard : Store → (n : ℕ) → Asked → (count : ℕ) → Step
-link_heard w n Link count = record { phase = Before (counted n); next = Line; store = w; out = [] }
+link_heard w n Link count = record { phase = Before (counted n); next = None; store = w; out = [] }
 link_heard w n Bad count = bad_link w n count
 link_heard w n (Open hops) count = bad_link w n count
 link_heard w n Offer count = bad_link w n count
@@ -94,7 +92,7 @@ links_heard links n Tick numbers = links
 
 -- A line, the `count`th of the script: "The network is set up at the first line whose first word is not `link`".
 unfoldable pub played : Phase → Store → (links : List ℕ) → (text : Text) → (count : ℕ) → Step
-played Over w links text count = record { phase = Over; next = Line; store = w; out = [] }
+played Over w links text count = record { phase = Over; next = None; store = w; out = [] }
 played Running w links text count = answered w (read_line text) (numbers_of text) count
 played (Before n) w links text count =
     elim (is_link text) [
@@ -112,5 +110,5 @@ played_links (Before n) links text =
 -- "or at the end of the input"
 unfoldable pub ended : Phase → Store → (links : List ℕ) → Step
 ended (Before n) w links = started w links n
-ended Running w links = record { phase = Running; next = Line; store = w; out = [] }
-ended Over w links = record { phase = Over; next = Line; store = w; out = [] }
+ended Running w links = record { phase = Running; next = None; store = w; out = [] }
+ended Over w links = record { phase = Over; next = None; store = w; out = [] }
