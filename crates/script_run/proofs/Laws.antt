@@ -1,7 +1,8 @@
 -- Where a run begins and ends, and that what its steps write, one after the other, is the listing.
 use Prim.Native.Nat.{ℕ, ◌<◌}
+use Rattle.std.specs.Prelude.{None}
 use mathlib.Core.Path.{◌≡◌, refl, sym, ap, ◌∙◌}
-use mathlib.Core.Bool.{Bool, true, false, false≢true}
+use mathlib.Core.Bool.{Bool, true, false≢true}
 use mathlib.Core.List.{List, [], ◌∷◌, ◌++◌, append_assoc, append-nil}
 use native.Mathlib.Omega.{arith}
 use lib.ListN.{length, drop, length-append}
@@ -10,7 +11,6 @@ use Rattle.text_decimal.specs.Word.{line_feed}
 use Rattle.store.specs.Layout.{Store}
 use Rattle.text_lines.proofs.Laws.{last_line, no_line}
 use Rattle.script_play.specs.declared.Phase.{Phase}
-use Rattle.script_play.specs.declared.Next.TheVariants.{Line}
 use Rattle.script_play.specs.Play.{ended as at_end}
 use Rattle.script_run.specs.declared.Wants.{Wants}
 use Rattle.script_run.specs.declared.Wants.TheVariants.{Room, Chunk, Nothing}
@@ -25,20 +25,14 @@ rest_start script = refl
 module _ (phase : Phase) (w : Store) (links : List ℕ) (lines : ℕ) where
   -- a last line that lacks its line feed may be given one
   pub rest_last : (before : Text) → 0 < length before
-      → rest_out phase Line w links lines before [] ≡ rest_out phase Line w links lines before (line_feed ∷ [])
+      → rest_out phase None w links lines before [] ≡ rest_out phase None w links lines before (line_feed ∷ [])
   unfolding rest_out
   rest_last [] h = absurd (omega arith)
   rest_last (b ∷ before) h = rw (last_line b before)
 
-  pub rest_end : rest_out phase Line w links lines [] [] ≡ (at_end phase w links).out
+  pub rest_end : rest_out phase None w links lines [] [] ≡ (at_end phase w links).out
   unfolding rest_out lines_out
   rest_end = rw no_line
-
-chunk_over : Chunk ≡ Nothing → ⊥
-chunk_over e = let z : ◌≡◌ {A = ℕ} 0 1 = cc in omega arith
-
-chunk_room : Chunk ≡ Room → ⊥
-chunk_room e = let z : ◌≡◌ {A = ℕ} 0 1 = cc in omega arith
 
 -- What has been written is the front of what is to be written, and all of it where the run is over.
 pub record Front (over : Bool) (all out : Text) : Type 0 where
@@ -84,7 +78,7 @@ module _ (chunks : List Text) (out : Text) where
   ran_front over more k r =
       rw (rest_start (script_of chunks more)) at
       (steps_front over Chunk start_state [] chunks out more r (λ e. refl)
-      (λ e. absurd (chunk_over e)) (λ e. absurd (chunk_room e)) k)
+      (λ e. absurd cc) (λ e. absurd cc) k)
 
   pub ran_listing : Comes chunks [] → Ran true Chunk start_state [] chunks out → listing (script_of chunks []) ≡ out
   ran_listing k r =

@@ -1,7 +1,8 @@
 -- What is still to be written, before and after a part of a run.
 use Prim.Native.Nat.{ℕ, suc, ◌<◌}
+use Rattle.std.specs.Prelude.{Option, None, Some, IfSome}
 use mathlib.Core.Path.{◌≡◌, refl}
-use mathlib.Core.Bool.{Bool, true, false}
+use mathlib.Core.Bool.{true, false}
 use mathlib.Core.List.{List, [], ◌∷◌, ◌++◌, append_assoc}
 use native.Mathlib.Omega.{arith}
 use lib.ListN.{take}
@@ -13,24 +14,9 @@ use Rattle.text_lines.proofs.Laws.{lines_fed, lines_unfed, beyond}
 use Rattle.script_tick.specs.Tick.{tick_out, tick_store, rest_store, rest_out as tick_rest}
 use Rattle.script_play.specs.declared.Phase.{Phase}
 use Rattle.script_play.specs.declared.Phase.TheVariants.{Over}
-use Rattle.script_play.specs.declared.Next.{Next}
-use Rattle.script_play.specs.declared.Next.TheVariants.{Line, Slots}
 use Rattle.script_play.specs.Play.{Step, played, played_links, ended}
-use Rattle.script_run.specs.Listing.{next_out, next_store, pending, counted, lines_out, rest_out}
+use Rattle.script_run.specs.Listing.{counted, lines_out, rest_out}
 use Rattle.script_run.proofs.Cut.{before_cut, line_cut}
-
--- what comes next after a piece of a tick
-abbrev pub after_tick : (over : Bool) → (left : ℕ) → Next
-after_tick true left = Line
-after_tick false left = Slots left
-
-after_out : (over : Bool) (left : ℕ) (w : Store) → next_out (after_tick over left) w ≡ tick_rest over w left
-after_out true left w = refl
-after_out false left w = refl
-
-after_store : (over : Bool) (left : ℕ) (w : Store) → next_store (after_tick over left) w ≡ rest_store over w left
-after_store true left w = refl
-after_store false left w = refl
 
 -- the lines of a text that begins with a line feed
 fed_lines : (before rest : Text) → lines_from before (line_feed ∷ rest) ≡ before ∷ lines_from [] rest
@@ -40,20 +26,18 @@ fed_lines (b ∷ before) rest = refl
 
 module _ (phase : Phase) (links : List ℕ) (lines : ℕ) where
   -- a piece of a tick
-  pub tick_rest_lem : (n left : ℕ) (over : Bool) (w later : Store) (part before rest : Text)
-      → tick_out w n ≡ part ++ tick_rest over later left → tick_store w n ≡ rest_store over later left
-      → rest_out phase (Slots n) w links lines before rest
-      ≡ part ++ rest_out phase (after_tick over left) later links lines before rest
+  pub tick_rest_lem : (n : ℕ) (left : Option ℕ) (w later : Store) (part before rest : Text)
+      → tick_out w n ≡ part ++ tick_rest left later → tick_store w n ≡ rest_store left later
+      → rest_out phase (Some n) w links lines before rest ≡ part ++ rest_out phase left later links lines before rest
   unfolding rest_out
-  tick_rest_lem n left over w later part before rest e f =
-      rw (e, f, after_out over left later, after_store over left later, append_assoc)
+  tick_rest_lem n left w later part before rest e f = rw (e, f, append_assoc)
 
   -- a line whose line feed has come
   module _ (w : Store) (text rest : Text) where
     abbrev step : Step
     step = played phase w links text (counted lines)
 
-    pub line_rest : rest_out phase Line w links lines text (line_feed ∷ rest)
+    pub line_rest : rest_out phase None w links lines text (line_feed ∷ rest)
         ≡ step.out ++ rest_out step.phase step.next step.store (played_links phase links text) (counted lines) [] rest
     unfolding rest_out lines_out
     line_rest = rw (fed_lines text rest)
@@ -61,15 +45,15 @@ module _ (phase : Phase) (links : List ℕ) (lines : ℕ) where
   module _ (w : Store) (before chunk more : Text) where
     -- a chunk with no line feed
     pub unfed_rest : feed_ahead chunk ≡ false
-        → rest_out phase Line w links lines before (chunk ++ more)
-        ≡ rest_out phase Line w links lines (take most_kept (before ++ ahead chunk)) more
+        → rest_out phase None w links lines before (chunk ++ more)
+        ≡ rest_out phase None w links lines (take most_kept (before ++ ahead chunk)) more
     unfolding rest_out
     unfed_rest h = rw (lines_unfed before chunk more h) (before_cut phase w links lines (before ++ ahead chunk) more)
 
     -- and with one
     pub fed_rest : feed_ahead chunk ≡ true
-        → rest_out phase Line w links lines before (chunk ++ more)
-        ≡ rest_out phase Line w links lines (take most_kept (before ++ ahead chunk)) (line_feed ∷ (beyond chunk ++ more))
+        → rest_out phase None w links lines before (chunk ++ more)
+        ≡ rest_out phase None w links lines (take most_kept (before ++ ahead chunk)) (line_feed ∷ (beyond chunk ++ more))
     unfolding rest_out
     fed_rest h =
         rw (lines_fed before chunk more h, fed_lines (take most_kept (before ++ ahead chunk)) (beyond chunk ++ more))
@@ -82,13 +66,15 @@ module _ (w : Store) (links : List ℕ) where
   over_lines lines [] = refl
   over_lines lines (text ∷ texts) = over_lines (counted lines) texts
 
-  pub over_rest : (lines : ℕ) (before rest : Text) → rest_out Over Line w links lines before rest ≡ []
+  pub over_rest : (lines : ℕ) (before rest : Text) → rest_out Over None w links lines before rest ≡ []
   unfolding rest_out
   over_rest lines before rest = over_lines lines (lines_from before rest)
 
--- it falls from piece to piece
-pub pending_over : {n : ℕ} (next : Next) → next ≡ Slots n → 0 < pending next
-pending_over next e = rw e (omega arith)
+-- how many pieces the slots that come next take at most, and one more
+abbrev pub pending : (next : Option ℕ) → ℕ
+pending None = 0
+pending (Some left) = suc left
 
-pub pending_less : {n left : ℕ} (next : Next) → next ≡ Slots n → left < n → suc left < pending next
-pending_less next e h = rw e (omega arith)
+pub pending_less : (next left : Option ℕ) (n : ℕ) → next ≡ Some n → IfSome left (λ m. m < n) → pending left < pending next
+pending_less next None n e h = rw e (omega arith)
+pending_less next (Some m) n e h = rw e (omega arith)

@@ -1,11 +1,10 @@
 -- A run of the program: what is kept from step to step, what a step does, and what many of them write.
-use Rattle.std.specs.Prelude.{ℕ, ◌<◌, ◌≡◌, Bool, true, false, List, [], ◌∷◌, ◌++◌, length, take, drop, replicate}
+use Rattle.std.specs.Prelude.{ℕ, ◌<◌, ◌≡◌, Bool, true, false, None, List, [], ◌∷◌, ◌++◌, length, take, drop, replicate}
 use Rattle.text_decimal.specs.Decimal.{Text}
 use Rattle.store.specs.Layout.{Store, store_length}
 use Rattle.text_lines.specs.Lines.{most_kept}
 use Rattle.script_listing.specs.Buffer.{last_for_slot}
 use Rattle.script_play.specs.declared.Phase.TheVariants.{Before}
-use Rattle.script_play.specs.declared.Next.TheVariants.{Line}
 use Rattle.script_play.specs.Play.{links_length}
 use Rattle.script_run.specs.declared.Run.{Run}
 use Rattle.script_run.specs.declared.Wants.{Wants}
@@ -47,7 +46,7 @@ pub record Goes (chunk : Text) (before : State) (written : Text) (after : State)
 
 -- The start.
 abbrev pub start_run : Run
-start_run = record { phase = Before 0; next = Line; lines = 0; length = 0; from = 0; at = 0 }
+start_run = record { phase = Before 0; next = None; lines = 0; length = 0; from = 0; at = 0 }
 
 abbrev pub start_state : State
 start_state = record {
