@@ -27,9 +27,7 @@ fn play(
     loop {
         let after = script_run::step(store, links, text, chunk, before, out);
         before = after.run;
-        let end = before.at;
-        let part: &[u8] = out;
-        rt.write_all(&part[..end])?;
+        rt.write_all(&out[..before.at])?;
         let Wants::Room = after.wants else {
             return Ok(after);
         };
