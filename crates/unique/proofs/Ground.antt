@@ -4,6 +4,12 @@ use Rattle.kinds.proofs as kinds_proofs
 use Rattle.unique.specs.Unique.{Unique}
 use Rattle.unique.proofs.Shapes.{whole, answer}
 
+pub kinds_refusal_number : Unique kinds.Refusal.number.ended kinds_proofs.Refusal.number.Reads.Post
+kinds_refusal_number κs a = whole answer
+
+pub kinds_refusal_place : Unique kinds.Refusal.place.ended kinds_proofs.Refusal.place.Reads.Post
+kinds_refusal_place κs a = whole answer
+
 pub kinds_link_new : Unique kinds.Link.new.ended kinds_proofs.Link.new.Reads.Post
 kinds_link_new κs a = whole answer
 
