@@ -119,6 +119,15 @@ place_before (suc at) = at
 abbrev pub course_end : ℕ → ℕ
 course_end x = channel_at x + 80
 
+-- A channel of a store, and a link of one: what a reader of its record is handed.
+pub record ChannelAt : Type 0 where
+  pub store : Store
+  pub x : ℕ
+
+pub record LinkAt : Type 0 where
+  pub store : Store
+  pub l : ℕ
+
 -- Reading and writing, a name each.
 abbrev pub links_of : Store → ℕ
 links_of w = number_at w links_at

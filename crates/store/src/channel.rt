@@ -6,6 +6,119 @@ ghost use Rattle.store.specs.Layout.{messages_of, with_messages, route_of, with_
 ghost use Rattle.store.specs.Layout.{time_of, with_time, end_of, with_end, ring, place_before, cleared, record_length};
 
 use super::{CHANNELS, RECORD, RING};
+use std::marker::Model;
+
+// The record as it is read.
+#[derive(Drop)]
+pub struct Record<'a> {
+    numbers: &'a [u64],
+    x: usize,
+}
+
+impl<'a> Model for Record<'a> {
+    ghost use Rattle.std.specs.Prelude.{◌<◌};
+    ghost use Rattle.kinds.specs.Ranges.{most_channels};
+    ghost use Rattle.store.specs.Layout.{ChannelAt, Long};
+
+    ghost Value = { ChannelAt };
+
+    ghost view = { λ r. record { store = r.numbers.now; x = r.x } };
+
+    ghost invariant = { λ r. Long r.numbers.now × (r.x < most_channels) };
+}
+
+impl Record<'_> {
+    pub fn new(numbers: &[u64], x: usize) -> Record<'_>
+        requires long { Long numbers.now }
+        requires in_range { x < most_channels }
+        ensures { result ≡ record { store = numbers.now; x = x } }
+    {
+        Record { numbers, x }
+    }
+
+    pub fn c(&self) -> u64
+        ensures { result ≡ c_of self.now.store self.now.x }
+    {
+        self.numbers[CHANNELS + RECORD * self.x]
+    }
+
+    pub fn p(&self) -> u64
+        ensures { result ≡ p_of self.now.store self.now.x }
+    {
+        self.numbers[CHANNELS + RECORD * self.x + 1]
+    }
+
+    pub fn d(&self) -> u64
+        ensures { result ≡ d_of self.now.store self.now.x }
+    {
+        self.numbers[CHANNELS + RECORD * self.x + 2]
+    }
+
+    pub fn b(&self) -> u64
+        ensures { result ≡ b_of self.now.store self.now.x }
+    {
+        self.numbers[CHANNELS + RECORD * self.x + 3]
+    }
+
+    pub fn hops(&self) -> usize
+        ensures { result ≡ hops_of self.now.store self.now.x }
+    {
+        self.numbers[CHANNELS + RECORD * self.x + 4] as usize
+    }
+
+    pub fn messages(&self) -> u64
+        ensures { result ≡ messages_of self.now.store self.now.x }
+    {
+        self.numbers[CHANNELS + RECORD * self.x + 5]
+    }
+
+    pub fn link(&self, j: usize) -> usize
+        requires { j < most_hops }
+        ensures { result ≡ route_of self.now.store self.now.x j }
+    {
+        self.numbers[CHANNELS + RECORD * self.x + 8 + j] as usize
+    }
+
+    pub fn delay(&self, j: usize) -> u64
+        requires { j < most_hops }
+        ensures { result ≡ delay_of self.now.store self.now.x j }
+    {
+        self.numbers[CHANNELS + RECORD * self.x + 16 + j]
+    }
+
+    pub fn sent(&self, j: usize) -> u64
+        requires { j < most_hops }
+        ensures { result ≡ sent_of self.now.store self.now.x j }
+    {
+        self.numbers[CHANNELS + RECORD * self.x + 24 + j]
+    }
+
+    pub fn time(&self, n: u64) -> u64
+        ensures { result ≡ time_of self.now.store self.now.x n }
+    {
+        self.numbers[CHANNELS + RECORD * self.x + 32 + (n % RING) as usize]
+    }
+
+    pub fn end(&self, n: u64) -> u64
+        ensures { result ≡ end_of self.now.store self.now.x n }
+    {
+        self.numbers[CHANNELS + RECORD * self.x + 56 + (n % RING) as usize]
+    }
+
+    pub fn time_in(&self, at: usize) -> u64
+        requires { at < ring }
+        ensures { result ≡ time_of self.now.store self.now.x at }
+    {
+        self.numbers[CHANNELS + RECORD * self.x + at + 32]
+    }
+
+    pub fn end_in(&self, at: usize) -> u64
+        requires { at < ring }
+        ensures { result ≡ end_of self.now.store self.now.x at }
+    {
+        self.numbers[CHANNELS + RECORD * self.x + at + 56]
+    }
+}
 
 // Every number of its record is 0.
 pub fn clear(store: &mut [u64], x: usize)

@@ -2,6 +2,7 @@
 // knows where it stands. docs/STORE.md has the layout as a table.
 #![tactic(auto)]
 
+pub mod lent; // lent.rt: a lent store as it is read
 pub mod head; // head.rt: how many links and channels there are, and the clock
 pub mod link; // link.rt: a link's record
 pub mod channel; // channel.rt: a channel's record

@@ -1,0 +1,65 @@
+// A lent store as it is read. In a clause it is its numbers.
+ghost use Rattle.std.specs.Prelude.{◌≡◌, ◌<◌};
+ghost use Rattle.kinds.specs.Ranges.{most_links, most_channels};
+ghost use Rattle.store.specs.Layout.{Long, links_of, channels_of, clock_of};
+
+use super::{channel, link};
+use std::marker::Model;
+
+// It is long enough.
+#[derive(Drop)]
+pub struct Lent<'a> {
+    numbers: &'a [u64],
+}
+
+impl<'a> Model for Lent<'a> {
+    ghost use Rattle.std.specs.Prelude.{List, ℕ};
+    ghost use Rattle.store.specs.Layout.{Long};
+
+    ghost Value = { List ℕ };
+
+    ghost view = { λ s. s.numbers.now };
+
+    ghost invariant = { λ s. Long s.numbers.now };
+}
+
+impl Lent<'_> {
+    pub fn new(numbers: &[u64]) -> Lent<'_>
+        requires { Long numbers.now }
+        ensures { result ≡ numbers.now }
+    {
+        Lent { numbers }
+    }
+
+    pub fn links(&self) -> usize
+        ensures { result ≡ links_of self.now }
+    {
+        self.numbers[0] as usize
+    }
+
+    pub fn channels(&self) -> usize
+        ensures { result ≡ channels_of self.now }
+    {
+        self.numbers[1] as usize
+    }
+
+    pub fn clock(&self) -> u64
+        ensures { result ≡ clock_of self.now }
+    {
+        self.numbers[2]
+    }
+
+    pub fn link(&self, l: usize) -> link::Record<'_>
+        requires { l < most_links }
+        ensures { result ≡ record { store = self.now; l = l } }
+    {
+        link::Record::new(self.numbers, l)
+    }
+
+    pub fn channel(&self, x: usize) -> channel::Record<'_>
+        requires { x < most_channels }
+        ensures { result ≡ record { store = self.now; x = x } }
+    {
+        channel::Record::new(self.numbers, x)
+    }
+}
