@@ -1,7 +1,10 @@
-// A lent store as it is read. In a clause it is its numbers.
-ghost use Rattle.std.specs.Prelude.{◌≡◌, ◌<◌};
+// A lent store as it is read: one that is long enough, one whose records are in range, one that is sound. In a clause each is
+// its numbers.
+ghost use Rattle.std.specs.Prelude.{◌≡◌, true, ◌<◌};
 ghost use Rattle.kinds.specs.Ranges.{most_links, most_channels};
-ghost use Rattle.store.specs.Layout.{Long, links_of, channels_of, clock_of};
+ghost use Rattle.store.specs.Layout.{Long, links_of, channels_of, clock_of, IsChannel};
+ghost use Rattle.store.specs.Sound.{sound_of};
+ghost use Rattle.store.specs.Ranged.{Fit};
 
 use super::{channel, link};
 use std::marker::Model;
@@ -61,5 +64,65 @@ impl Lent<'_> {
         ensures { result ≡ record { store = self.now; x = x } }
     {
         channel::Record::new(self.numbers, x)
+    }
+}
+
+// Its counts, its links and its channels are sound: what its rows may rely on.
+#[derive(Drop)]
+pub struct Fitting<'a> {
+    pub store: Lent<'a>,
+}
+
+impl<'a> Model for Fitting<'a> {
+    ghost use Rattle.std.specs.Prelude.{List, ℕ};
+    ghost use Rattle.store.specs.Ranged.{Fit};
+
+    ghost Value = { List ℕ };
+
+    ghost view = { λ s. s.store };
+
+    ghost invariant = { λ s. Fit s.store };
+}
+
+// It is sound.
+#[derive(Drop)]
+pub struct Sound<'a> {
+    pub store: Lent<'a>,
+}
+
+impl<'a> Model for Sound<'a> {
+    ghost use Rattle.std.specs.Prelude.{List, ℕ, ◌≡◌, true};
+    ghost use Rattle.store.specs.Sound.{sound_of};
+
+    ghost Value = { List ℕ };
+
+    ghost view = { λ s. s.store };
+
+    ghost invariant = { λ s. sound_of s.store ≡ true };
+}
+
+impl Sound<'_> {
+    // For the crates above, which know it.
+    pub fn new(numbers: &[u64]) -> Sound<'_>
+        requires { sound_of numbers.now ≡ true }
+        ensures { result ≡ numbers.now }
+    {
+        Sound {
+            store: Lent::new(numbers),
+        }
+    }
+
+    pub fn link(&self, l: usize) -> link::Record<'_>
+        requires { l < links_of self.now }
+        ensures { result ≡ record { store = self.now; l = l } }
+    {
+        self.store.link(l)
+    }
+
+    pub fn channel(&self, x: usize) -> channel::Record<'_>
+        requires { IsChannel self.now x }
+        ensures { result ≡ record { store = self.now; x = x } }
+    {
+        self.store.channel(x)
     }
 }
