@@ -11,9 +11,12 @@ use Rattle.std.specs.Fn.{Called, CalledAt}
 use Rattle.std.specs.List.{range_with_len, FoldsTo, AllWithin, HoldsAt}
 use Rattle.std.specs.Option.{MatchOption}
 use Rattle.std.specs.Bool.{MatchBool, ⊤}
-use Rattle.std.proofs.lemmas.Iterator.{YieldsList-from_range, cases_from_all, first_from_Range}
+use Rattle.std.proofs.lemmas.Iterator.{YieldsList-from_range, YieldsList-from_slice, cases_from_all, first_from_Range, IsFirst-from_position}
 use Rattle.std.proofs.lemmas.List.FromFn.{length-range_with_len, get_or-range_with_len}
-use Rattle.std.proofs.iter.Yields.{nat_range_steps}
+use Rattle.std.proofs.iter.Yields.{nat_range_steps, fronts}
+use Rattle.std.specs.Slice.Iter.{iter_rest}
+use Rattle.std.specs.declared.slice.Iter.{Iter}
+use mathlib.Core.Path.{◌∙◌}
 use Rattle.folds.specs.Folds.{every, first_not, failing}
 use Rattle.folds.proofs.Folds.{every_true, every_false, first_at}
 
@@ -69,6 +72,35 @@ module _ {F : Type 0} (f : ℕ → Bool) (n : ℕ) where
           let b : every f i ≡ true = every_true f i (λ k l. m.3 k (omega (arith, a)) l) in
           let w : every f n ≡ false = every_false f n i l m.2 in
           rw (w, first_at f n i b m.2 l, failing)
+
+-- `numbers.iter().position(..)`, where the closure works out that the test t does not hold of a number
+pub failing_from_position : {F : Type 0} (f t : ℕ → Bool) (numbers : List ℕ) {g : Mut F (Bor ℕ × Unit {0}) Bool} {s : Iter ℕ}
+    (u : Iter ℕ) (h : F) (r : Option ℕ)
+    → (xs : List (Bor ℕ)) × (o : Option (Bor ℕ)) × (j : F) × YieldsThen fronts s xs o u
+      × FoldsTo (λ p x q. Called g p (x, tt) false q) h xs j
+      × MatchOption o (r ≡ None) (λ x. (r ≡ Some (length xs)) × ((e : F) × Called g j (x, tt) true e))
+    → iter_rest s ≡ numbers
+    → ((x : Bor ℕ) (b : Bool) (q : F) → Called g h (x, tt) b q → (q ≡ h) × (t x.now ≡ not b))
+    → ((j : ℕ) → j < length numbers → f j ≡ t (get_or numbers j 0))
+    → r ≡ failing f (length numbers)
+unfolding failing
+failing_from_position f t numbers u h r ran e called tests =
+    go r (IsFirst-from_position u h r (λ x. t x ≡ false) (λ x. t x ≡ true) ran (YieldsList-from_slice numbers e)
+      (λ x q k. (called x true q k).1) (λ x q k. called x false q k))
+  where
+    go : (r : Option ℕ)
+        → MatchOption r (AllWithin (λ x. t x ≡ true) numbers 0 (length numbers))
+          (λ i. (i < length numbers) × HoldsAt (λ x. t x ≡ false) numbers i × AllWithin (λ x. t x ≡ true) numbers 0 i)
+        → r ≡ failing f (length numbers)
+    go None m =
+        let a : every f (length numbers) ≡ true =
+        every_true f (length numbers) (λ k l. tests k l ∙ m k 0 (omega arith) l) in
+        rw (a, failing)
+    go (Some i) m =
+        let b : every f i ≡ true = every_true f i (λ k l. tests k (omega (arith, l, m.0)) ∙ m.2 k 0 (omega arith) l) in
+        let n : f i ≡ false = tests i m.0 ∙ m.1 0 in
+        let w : every f (length numbers) ≡ false = every_false f (length numbers) i m.0 n in
+        rw (w, first_at f (length numbers) i b n m.0, failing)
 
 -- what a caller learns: all hold, or the first that does not
 module _ (f : ℕ → Bool) (n : ℕ) where

@@ -5,6 +5,10 @@ use Rattle.kinds.specs.Ranges.{most_links}
 use Rattle.store.specs.Layout.{Store, number_at, links_of, from_of, to_of}
 use Rattle.folds.specs.Folds.{every}
 
+-- the link at place j of a route
+abbrev pub along : (route : List ℕ) → (j : ℕ) → ℕ
+along route j = number_at route j
+
 -- the numbers from place `at` on
 abbrev pub from : List ℕ → (at j : ℕ) → ℕ
 from numbers at j = number_at numbers (at + j)

@@ -1,10 +1,11 @@
 // The record of a channel: its numbers, its route, and how far its messages are. Message `n` is counted from 1.
-ghost use Rattle.std.specs.Prelude.{◌≡◌, ◌%◌, ◌<◌};
+ghost use Rattle.std.specs.Prelude.{◌≡◌, ◌%◌, ◌≤◌, ◌<◌, take, drop};
 ghost use Rattle.kinds.specs.Ranges.{most_channels, most_hops};
 ghost use Rattle.store.specs.Layout.{Long, route_start, c_of, with_c, p_of, with_p, d_of, with_d, b_of, with_b, hops_of, with_hops};
 ghost use Rattle.store.specs.Layout.{messages_of, with_messages, route_of, with_route, delay_of, with_delay, sent_of, with_sent};
 ghost use Rattle.store.specs.Layout.{time_of, with_time, end_of, with_end, ring, place_before, cleared, record_length};
 
+use super::lent::Lent;
 use super::{CHANNELS, RECORD, RING};
 use std::marker::Model;
 
@@ -34,6 +35,21 @@ impl Record<'_> {
         ensures { result ≡ record { store = numbers.now; x = x } }
     {
         Record { numbers, x }
+    }
+
+    pub fn store(&self) -> Lent<'_>
+        ensures { result ≡ self.now.store }
+    {
+        Lent::new(self.numbers)
+    }
+
+    // The first `n` links of its route.
+    pub fn route(&self, n: usize) -> &[u64]
+        requires { n ≤ most_hops }
+        ensures { result.now ≡ take n (drop (route_start self.now.x) self.now.store) }
+    {
+        let start = CHANNELS + RECORD * self.x + 8;
+        &self.numbers[start..start + n]
     }
 
     pub fn c(&self) -> u64

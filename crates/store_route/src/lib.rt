@@ -1,39 +1,36 @@
-// A route over the network: document 01's checks 3, 4 and 5, and what a channel has on a link of its route. A route is read
-// from `numbers`, from place `at` on: a lent one from 0, a stored one from its place in the store.
+// A route over the network: document 01's checks 3, 4 and 5, and what a channel has on a link of its route.
 #![tactic(auto)]
 
 ghost use Rattle.std.specs.Prelude.{◌≡◌, true, ◌+◌, ◌≤◌, ◌<◌, length};
-ghost use Rattle.kinds.specs.Ranges.{most_links, most_channels, most_hops, most_c};
-ghost use Rattle.store.specs.Layout.{Long, links_of, hops_of, delay_of, sent_of};
+ghost use Rattle.kinds.specs.Ranges.{most_links, most_hops, most_c};
+ghost use Rattle.store.specs.Layout.{links_of, hops_of, delay_of, sent_of};
 ghost use Rattle.folds.specs.Folds.{every, failing, sum_to};
-ghost use Rattle.store.specs.Route.{from, exists, is_new, joins, Known, route_passes};
+ghost use Rattle.store.specs.Route.{along, exists, is_new, joins, Known, route_passes};
 ghost use Rattle.store.specs.Amounts.{later_reserved, reserved_of, entered_of, held_of};
 ghost use Rattle.store.specs.Ranged.{Ranged, SmallDelays, Near};
 
 use kinds::Network;
-use store::{channel, head, link};
+use store::channel::Record;
+use store::lent::Lent;
 
 // 3: the first place with a link number that does not exist.
-pub fn unknown_link(store: &[u64], numbers: &[u64], at: usize, n: usize) -> Option<usize>
-    requires long { Long store.now }
-    requires n_in_bounds { at + n ≤ length numbers.now }
-    ensures { result ≡ failing (exists store.now (from numbers.now at)) n }
+pub fn unknown_link(store: &Lent, route: &[u64]) -> Option<usize>
+    ensures { result ≡ failing (exists store.now (along route.now)) (length route.now) }
 {
-    let links = head::links(store);
-    (0..n).find(|&j| numbers[at + j] as usize >= links)
+    let links = store.links();
+    route.iter().position(|&l| l as usize >= links)
 }
 
 // 4: the first place with a link that stands before. The links are known to exist.
 #[tactic(auto, using(crate::proofs::Seen::marks_none, folds::proofs::Folds::every_none))]
-pub fn repeated_link(numbers: &[u64], at: usize, n: usize) -> Option<usize>
-    requires n_in_bounds { at + n ≤ length numbers.now }
-    requires known { Known (from numbers.now at) n }
-    ensures { result ≡ failing (is_new (from numbers.now at)) n }
+pub fn repeated_link(route: &[u64]) -> Option<usize>
+    requires { Known (along route.now) (length route.now) }
+    ensures { result ≡ failing (is_new (along route.now)) (length route.now) }
 {
     // whether a link stands at a place before
     let mut seen = [false; Network::MOST_LINKS];
-    for j in 0..n {
-        let l = numbers[at + j] as usize;
+    for j in 0..route.len() {
+        let l = route[j] as usize;
         if seen[l] {
             return Some(j);
         }
@@ -44,50 +41,45 @@ pub fn repeated_link(numbers: &[u64], at: usize, n: usize) -> Option<usize>
 
 // Whether the link at place `j` starts where the one before ends.
 #[tactic(auto, using(store::proofs::Laws::Amounts::joins_first, store::proofs::Laws::Amounts::joins_later))]
-fn is_joined(store: &[u64], numbers: &[u64], at: usize, j: usize) -> bool
-    requires long { Long store.now }
-    requires j_in_bounds { at + j < length numbers.now }
-    requires store_bound { links_of store.now ≤ most_links }
-    requires j_value { every (exists store.now (from numbers.now at)) (j + 1) ≡ true }
-    ensures { result ≡ joins store.now (from numbers.now at) j }
+fn is_joined(store: &Lent, route: &[u64], j: usize) -> bool
+    requires j_in_bounds { j < length route.now }
+    requires few_links { links_of store.now ≤ most_links }
+    requires known { every (exists store.now (along route.now)) (j + 1) ≡ true }
+    ensures { result ≡ joins store.now (along route.now) j }
 {
     if j == 0 {
         return true;
     }
-    let here = numbers[at + j] as usize;
-    let before = numbers[at + (j - 1)] as usize;
-    link::from(store, here) == link::to(store, before)
+    let here = route[j] as usize;
+    let before = route[j - 1] as usize;
+    store.link(here).from() == store.link(before).to()
 }
 
 // 5: the first place with a link that does not start where the one before ends.
-pub fn parted_link(store: &[u64], numbers: &[u64], at: usize, n: usize) -> Option<usize>
-    requires long { Long store.now }
-    requires n_in_bounds { at + n ≤ length numbers.now }
-    requires store_bound { links_of store.now ≤ most_links }
-    requires n_value { every (exists store.now (from numbers.now at)) n ≡ true }
-    ensures { result ≡ failing (joins store.now (from numbers.now at)) n }
+pub fn parted_link(store: &Lent, route: &[u64]) -> Option<usize>
+    requires few_links { links_of store.now ≤ most_links }
+    requires known { every (exists store.now (along route.now)) (length route.now) ≡ true }
+    ensures { result ≡ failing (joins store.now (along route.now)) (length route.now) }
 {
-    (0..n).find(|&j| !is_joined(store, numbers, at, j))
+    (0..route.len()).find(|&j| !is_joined(store, route, j))
 }
 
-// Whether the first `n` links pass 3, 4 and 5, where it does not matter which one fails: in one pass.
+// Whether a route passes 3, 4 and 5, where it does not matter which one fails: in one pass.
 #[tactic(auto, using(crate::proofs::Seen::marks_none, folds::proofs::Folds::every_none))]
-pub fn passes(store: &[u64], numbers: &[u64], at: usize, n: usize) -> bool
-    requires long { Long store.now }
-    requires n_in_bounds { at + n ≤ length numbers.now }
-    requires store_bound { links_of store.now ≤ most_links }
-    ensures { result ≡ route_passes store.now (from numbers.now at) n }
+pub fn passes(store: &Lent, route: &[u64]) -> bool
+    requires { links_of store.now ≤ most_links }
+    ensures { result ≡ route_passes store.now (along route.now) (length route.now) }
 {
-    let links = head::links(store);
+    let links = store.links();
     // whether a link stands at a place before
     let mut met = [false; Network::MOST_LINKS];
-    for j in 0..n {
-        let l = numbers[at + j] as usize;
+    for j in 0..route.len() {
+        let l = route[j] as usize;
         if l >= links || met[l] {
             return false;
         }
         met[l] = true;
-        if !is_joined(store, numbers, at, j) {
+        if !is_joined(store, route, j) {
             return false;
         }
     }
@@ -109,59 +101,57 @@ pub fn later_reserved(c: u64, p: u64, horizon: u64, before: u64, here: u64) -> u
 
 // The packets reserved for a channel at place `j` of its route.
 #[tactic(auto, using(store::proofs::Laws::Amounts::reserved_first, store::proofs::Laws::Amounts::reserved_later))]
-pub fn reserved(store: &[u64], x: usize, j: usize) -> u64
-    requires ranged { Ranged store.now x }
-    requires j_bound { j < hops_of store.now x }
-    ensures { result ≡ reserved_of store.now x j }
+pub fn reserved(channel: &Record, j: usize) -> u64
+    requires ranged { Ranged channel.now.store channel.now.x }
+    requires on_route { j < hops_of channel.now.store channel.now.x }
+    ensures { result ≡ reserved_of channel.now.store channel.now.x j }
 {
-    let c = channel::c(store, x);
+    let c = channel.c();
     if j == 0 {
-        return channel::b(store, x) * c;
+        return channel.b() * c;
     }
-    let horizon = link::horizon(store, channel::route(store, x, j - 1));
-    let before = channel::delay(store, x, j - 1);
-    let here = channel::delay(store, x, j);
-    later_reserved(c, channel::p(store, x), horizon, before, here)
+    let horizon = channel.store().link(channel.link(j - 1)).horizon();
+    later_reserved(
+        c,
+        channel.p(),
+        horizon,
+        channel.delay(j - 1),
+        channel.delay(j),
+    )
 }
 
 // The delays of a channel before place `j` of its route.
 #[tactic(auto, using(folds::proofs::Folds::sum_none, folds::proofs::Folds::sum_more))]
-pub fn offset(store: &[u64], x: usize, j: usize) -> u64
-    requires long { Long store.now }
-    requires x_lt_most_channels { x < most_channels }
+pub fn offset(channel: &Record, j: usize) -> u64
     requires j_lt_most_hops { j < most_hops }
-    requires small_delays { SmallDelays store.now x j }
-    ensures { result ≡ sum_to (delay_of store.now x) j }
+    requires small_delays { SmallDelays channel.now.store channel.now.x j }
+    ensures { result ≡ sum_to (delay_of channel.now.store channel.now.x) j }
 {
     let mut sum: u64 = 0;
     for i in 0..j {
-        sum += channel::delay(store, x, i);
+        sum += channel.delay(i);
     }
     sum
 }
 
 // The packets that have come to place `j` of a channel's route.
 #[tactic(auto, using(store::proofs::Laws::Amounts::entered_first, store::proofs::Laws::Amounts::entered_later))]
-pub fn entered(store: &[u64], x: usize, j: usize) -> u64
-    requires long { Long store.now }
-    requires x_lt_most_channels { x < most_channels }
-    requires j_lt_most_hops { j < most_hops }
-    ensures { result ≡ entered_of store.now x j }
+pub fn entered(channel: &Record, j: usize) -> u64
+    requires { j < most_hops }
+    ensures { result ≡ entered_of channel.now.store channel.now.x j }
 {
     if j == 0 {
-        channel::end(store, x, channel::messages(store, x))
+        channel.end(channel.messages())
     } else {
-        channel::sent(store, x, j - 1)
+        channel.sent(j - 1)
     }
 }
 
 // The packets held there.
-pub fn held(store: &[u64], x: usize, j: usize) -> u64
-    requires long { Long store.now }
-    requires x_lt_most_channels { x < most_channels }
+pub fn held(channel: &Record, j: usize) -> u64
     requires j_lt_most_hops { j < most_hops }
-    requires j_bound { sent_of store.now x j ≤ entered_of store.now x j }
-    ensures { result ≡ held_of store.now x j }
+    requires sent_le_entered { sent_of channel.now.store channel.now.x j ≤ entered_of channel.now.store channel.now.x j }
+    ensures { result ≡ held_of channel.now.store channel.now.x j }
 {
-    entered(store, x, j) - channel::sent(store, x, j)
+    entered(channel, j) - channel.sent(j)
 }

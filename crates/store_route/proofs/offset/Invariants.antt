@@ -6,6 +6,6 @@ use Rattle.store_route.proofs.offset.Given as goal
 
 abbrev pub invariant-loop-i : goal.invariant-loop-i
 invariant-loop-i l = record {
-  total : l.sum ≡ sum_to (delay_of l.store l.x) l.i;
+  total : l.sum ≡ sum_to (delay_of l.channel.store l.channel.x) l.i;
   small : l.sum ≤ most_p * l.i;
 }
