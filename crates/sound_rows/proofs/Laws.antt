@@ -1,4 +1,3 @@
 -- Laws of the store's rows.
 pub mod There
-pub mod Rows
 pub mod Walk

@@ -12,46 +12,34 @@ ghost use Rattle.sound_rows.specs.Rows.{stands, follows};
 use store::{channel, head, link};
 
 // Whether channel `x` is routed over link `l`, at place `j` of its route.
+#[tactic(auto, using(crate::proofs::Laws::There::hops_most))]
 fn row_stands(store: &[u64], l: usize, x: usize, j: usize) -> bool
     requires { Fit store.now }
     ensures { result ≡ stands store.now l x j }
 {
-    if x >= head::channels(store) {
-        return false;
-    }
-    if j >= channel::hops(store, x) {
-        return false;
-    }
-    channel::route(store, x, j) == l
+    x < head::channels(store) && j < channel::hops(store, x) && channel::route(store, x, j) == l
 }
 
 // Whether a row comes after the one above it, channel `higher` with the delay `above`: by delay, then by channel number.
 fn row_follows(above: u64, higher: usize, delay: u64, x: usize) -> bool
     ensures { result ≡ follows above higher delay x }
 {
-    if above < delay {
-        return true;
-    }
-    if above != delay {
-        return false;
-    }
-    higher < x
+    (above, higher) < (delay, x)
 }
 
 // Whether the rows of link `l` are channels routed over it, in order, hold no more than is reserved for them, and fit its
 // buffer together.
+#[tactic(auto, using(crate::proofs::Laws::Walk::row_steps))]
 fn link_rows_sound(store: &[u64], l: usize) -> bool
     requires fit { Fit store.now }
     requires l_bound { l < links_of store.now }
     ensures { result ≡ rows_sound store.now l }
 {
-    let rows = link::rows(store, l);
     // the delay and the channel of the row above; a delay is at least 1, so that the first row comes after these
     let mut above: u64 = 0;
     let mut higher: usize = 0;
     let mut sum: u64 = 0;
-    let mut k: usize = 0;
-    while k < rows {
+    for k in 0..link::rows(store, l) {
         let x = link::row_channel(store, l, k);
         let j = link::row_place(store, l, k);
         if !row_stands(store, l, x, j) {
@@ -69,7 +57,6 @@ fn link_rows_sound(store: &[u64], l: usize) -> bool
         sum += reserved;
         above = delay;
         higher = x;
-        k += 1;
     }
     sum <= link::buffer(store, l)
 }
@@ -79,13 +66,5 @@ pub fn rows_sound(store: &[u64]) -> bool
     requires { Fit store.now }
     ensures { result ≡ every (rows_sound store.now) (links_of store.now) }
 {
-    let links = head::links(store);
-    let mut l: usize = 0;
-    while l < links {
-        if !link_rows_sound(store, l) {
-            return false;
-        }
-        l += 1;
-    }
-    true
+    (0..head::links(store)).all(|l| link_rows_sound(store, l))
 }

@@ -6,20 +6,16 @@ use mathlib.Core.Bool.{true, false}
 use native.Mathlib.Nat.{le_trans}
 use native.Mathlib.Numerals.{add-one}
 use native.Mathlib.Omega.{arith}
-use lib.Dec.{leb}
-use mir.Syntax.{w64}
-use mir.Val.{Fits}
 use borrow.Author.Tests.{lt-ltb, le-leb, lt-leb}
 use Rattle.store.specs.Ranged.{most_reserved, Ranged, Fit}
-use Rattle.kinds.specs.Ranges.{most_channels, most_rows, most_hops}
-use Rattle.store.specs.Layout.{Store, buffer_of, rows_of, row_channel_of, row_place_of, p_of, hops_of, delay_of, sent_of, IsChannel}
-use Rattle.store.specs.Amounts.{reserved_of, entered_of, held_of, reserved_along}
+use Rattle.store.specs.Layout.{Store, rows_of, row_channel_of, row_place_of, p_of, hops_of, delay_of, IsChannel}
+use Rattle.store.specs.Amounts.{reserved_of, held_of, reserved_along}
 use Rattle.store.specs.Sound.{row_stands, row_delay_of, row_follows, row_reserved_of, row_holds, row_sound, rows_sound}
-use Rattle.folds.proofs.Folds.{Passing, passing_none, passing_more, passing_done, every_false}
-use Rattle.folds.proofs.Adding.{Adding, adding_none, adding_more, adding_fits, adding_done}
+use Rattle.folds.proofs.Folds.{every_none, every_false, sum_none}
 use Rattle.store.proofs.Laws.Amounts.{first_most, later_most}
-use Rattle.store.proofs.Laws.Sound.{fit_ranged, fit_flows, row_is_lem}
+use Rattle.store.proofs.Laws.Sound.{fit_ranged, fit_rows, fit_flows, row_is_lem}
 use Rattle.sound_rows.specs.Rows.{stands, follows}
+use Rattle.sound_rows.proofs.Laws.There.{hops_most}
 
 reserved_most : (w : Store) (x j : ℕ) → Ranged w x → j < hops_of w x → reserved_of w x j ≤ most_reserved
 unfolding reserved_of reserved_along
@@ -38,6 +34,26 @@ unfoldable pub channel_above : Store → (l k : ℕ) → ℕ
 channel_above w l zero = 0
 channel_above w l (suc k) = row_channel_of w l k
 
+module _ (w : Store) (l : ℕ) where
+  pub delay_none : delay_above w l 0 ≡ 0
+  unfolding delay_above
+  delay_none = refl
+
+  pub channel_none : channel_above w l 0 ≡ 0
+  unfolding channel_above
+  channel_none = refl
+
+  pub delay_more : (k : ℕ) → delay_above w l (k + 1) ≡ row_delay_of w l k
+  unfolding delay_above
+  delay_more k = rw (add-one k, delay_above)
+
+  pub channel_more : (k : ℕ) → channel_above w l (k + 1) ≡ row_channel_of w l k
+  unfolding channel_above
+  channel_more k = rw (add-one k, channel_above)
+
+-- what the loop's goals are found by
+pub ruleset row_steps = (fit_rows, fit_flows, hops_most, every_none, sum_none, delay_none, channel_none)
+
 follows_above : (w : Store) (l k : ℕ) → 1 ≤ row_delay_of w l k
     → follows (delay_above w l k) (channel_above w l k) (row_delay_of w l k) (row_channel_of w l k) ≡ row_follows w l k
 unfolding row_follows delay_above channel_above
@@ -55,11 +71,18 @@ pub record Row (w : Store) (l k x j : ℕ) : Type 0 where
   pub its_channel : x ≡ row_channel_of w l k
   pub its_place : j ≡ row_place_of w l k
 
+pub row_read : {w : Store} (l k : ℕ) {x j : ℕ} → Fit w → k < rows_of w l → x ≡ row_channel_of w l k → j ≡ row_place_of w l k
+    → Row w l k x j
+row_read l k f h ec ej = record { fit = f; below = h; its_channel = ec; its_place = ej }
+
 module _ {w : Store} {l k x j : ℕ} (r : Row w l k x j) where
   pub row_absent : stands w l x j ≡ false → false ≡ rows_sound w l
   row_absent e =
       let s : row_stands w l k ≡ false = rw (r.its_channel, r.its_place) at e in
       no_row w l k r.below (rw s)
+
+  pub row_reserved : {reserved : ℕ} → reserved ≡ reserved_of w x j → reserved ≡ row_reserved_of w l k
+  row_reserved er = rw (r.its_channel, r.its_place) at er
 
   module _ (e : stands w l x j ≡ true) where
     s : row_stands w l k ≡ true
@@ -68,17 +91,11 @@ module _ {w : Store} {l k x j : ℕ} (r : Row w l k x j) where
     row_channel : IsChannel w x
     row_channel = rw r.its_channel (row_is_lem w l k s).channel
 
-    pub row_place : j < hops_of w x
+    row_place : j < hops_of w x
     row_place = rw (r.its_channel, r.its_place) (row_is_lem w l k s).place
 
     pub row_ranged : Ranged w x
     row_ranged = fit_ranged w r.fit x row_channel
-
-    pub row_at : (x < most_channels) × (j < most_hops)
-    row_at = (row_ranged.channel, omega (arith, row_place, row_ranged.hops_most))
-
-    pub row_flows : sent_of w x j ≤ entered_of w x j
-    row_flows = fit_flows w r.fit x row_channel j row_place
 
     pub row_most : {reserved : ℕ} → reserved ≡ reserved_of w x j → reserved ≤ most_reserved
     row_most er = rw er (reserved_most w x j row_ranged row_place)
@@ -91,8 +108,8 @@ module _ {w : Store} {l k x j : ℕ} (r : Row w l k x j) where
           let d' : d ≡ row_delay_of w l k = rw (r.its_channel, r.its_place) at ed in
           rw (ea, eh, d', r.its_channel) (follows_above w l k p)
 
-      pub row_early_lem : follows above higher d x ≡ false → false ≡ rows_sound w l
-      row_early_lem o =
+      pub row_early : follows above higher d x ≡ false → false ≡ rows_sound w l
+      row_early o =
           let t : row_follows w l k ≡ false = sym order ∙ o in
           no_row w l k r.below (rw (s, t))
 
@@ -110,44 +127,3 @@ module _ {w : Store} {l k x j : ℕ} (r : Row w l k x j) where
         row_good h =
             let b : row_holds w l k ≡ true = le-leb _ _ (rw (r.its_channel, r.its_place) at (rw (er, ek) at h)) in
             rw (s, t, b)
-
--- The rows above k have passed; `sum` is what is reserved for them, and `above` and `higher` are those of the last one.
-pub record Walk (w : Store) (l above higher sum k : ℕ) : Type 0 where
-  pub rows : Passing (row_sound w l) (rows_of w l) k
-  pub sums : Adding (row_reserved_of w l) most_reserved (rows_of w l) k sum
-  pub delay : above ≡ delay_above w l k
-  pub channel : higher ≡ channel_above w l k
-
-module _ (w : Store) (l : ℕ) where
-  pub walk_none : Walk w l 0 0 0 0
-  unfolding delay_above channel_above
-  walk_none = record {
-    rows = passing_none (row_sound w l) (rows_of w l);
-    sums = adding_none (row_reserved_of w l) most_reserved (rows_of w l);
-    delay = refl;
-    channel = refl;
-  }
-
-  module _ (above higher sum k : ℕ) (p : Walk w l above higher sum k) where
-    pub walk_more : {x j d r : ℕ} → Row w l k x j → d ≡ delay_of w x j → r ≡ reserved_of w x j → row_sound w l k ≡ true
-        → r ≤ most_reserved → Walk w l d x (sum + r) (k + 1)
-    unfolding delay_above channel_above
-    walk_more {r = r} row ed er e m =
-        let ec = row.its_channel in
-        let ej = row.its_place in
-        record {
-          rows = passing_more (row_sound w l) (rows_of w l) k p.rows row.below e;
-          sums = adding_more (row_reserved_of w l) most_reserved (rows_of w l) k sum p.sums row.below r (rw (ec, ej) at er) m;
-          delay = rw (add-one k, delay_above) (rw (ec, ej) at ed);
-          channel = rw (add-one k, channel_above) ec;
-        }
-
-    pub walk_fits : rows_of w l ≤ most_rows → (r : ℕ) → r ≤ most_reserved → Fits w64 (sum + r)
-    walk_fits h r m =
-        adding_fits (row_reserved_of w l) most_reserved (rows_of w l) k sum p.sums (omega arith) (omega arith) r m
-
-    pub walk_done : rows_of w l ≤ k → (b : ℕ) → b ≡ buffer_of w l → leb sum b ≡ rows_sound w l
-    walk_done h b e =
-        let r = passing_done (row_sound w l) (rows_of w l) k p.rows h in
-        let s = adding_done (row_reserved_of w l) most_reserved (rows_of w l) k sum p.sums h in
-        rw (r, e, s)
