@@ -19,6 +19,9 @@ use Rattle.unique.proofs.Shapes.{whole, ◌&◌, answer, first, second, third, f
 pub text_decimal_read : Unique text_decimal.read.ended text_decimal_proofs.read.Reads.Post
 text_decimal_read κs a = whole answer
 
+pub text_decimal_word_end : Unique text_decimal.word_end.ended text_decimal_proofs.word_end.Reads.Post
+text_decimal_word_end κs a = whole answer
+
 pub text_decimal_write : Unique text_decimal.write.ended text_decimal_proofs.write.Reads.Post
 text_decimal_write κs a = whole (answer & first)
 
