@@ -1,11 +1,39 @@
--- What the checks before give to the messages: the delays of a route are small.
-use Rattle.std.proofs.Common.{◌≡◌, ◌≤◌, ◌<◌, ℕ, true, arith, tests}
+-- What the checks before give to the messages: the delays of a route are small. And a stored route as a slice of the store.
+use Rattle.std.proofs.Common.{◌≡◌, ◌≤◌, ◌<◌, ℕ, zero, suc, true, refl, take, drop, arith, tests}
+use mathlib.Core.Path.{◌∙◌}
+use lib.Seq.{get_or-take, get_or-drop}
 use Rattle.kinds.specs.Ranges.{most_p}
-use Rattle.store.specs.Layout.{Store, hops_of, delay_of}
+use Rattle.store.specs.Layout.{Store, route_start, route_of, hops_of, delay_of}
 use Rattle.folds.specs.Folds.{every}
 use Rattle.store.specs.Sound.{channel_fits, place_fits}
-use Rattle.folds.proofs.Folds.{every_at}
+use Rattle.folds.proofs.Folds.{every_at, every_same}
+use Rattle.store.specs.Route.{along, exists, differs, is_new, joins, route_passes}
 
 pub small_delay : (w : Store) (x i : ℕ) → channel_fits w x ≡ true → every (place_fits w x) (hops_of w x) ≡ true → i < hops_of w x
     → delay_of w x i ≤ most_p
 small_delay w x i e f h = grind (arith, tests, every_at (place_fits w x) (hops_of w x) f i h)
+
+-- A route is judged by the links that it names.
+module _ (w : Store) (r s : ℕ → ℕ) (n : ℕ) (same : (j : ℕ) → j < n → r j ≡ s j) where
+  exists_same : (j : ℕ) → j < n → exists w r j ≡ exists w s j
+  exists_same j h = rw (same j h)
+
+  new_same : (j : ℕ) → j < n → is_new r j ≡ is_new s j
+  new_same j h = every_same (differs r j) (differs s j) j (λ i k. rw (same i (omega arith), same j h))
+
+  joins_same : (j : ℕ) → j < n → joins w r j ≡ joins w s j
+  unfolding joins
+  joins_same zero h = refl
+  joins_same (suc j) h = rw (same (suc j) h, same j (omega arith))
+
+  pub route_same : route_passes w r n ≡ route_passes w s n
+  route_same = rw (
+    every_same (exists w r) (exists w s) n exists_same,
+    every_same (is_new r) (is_new s) n new_same,
+    every_same (joins w r) (joins w s) n joins_same,
+  )
+
+-- a stored route as a slice of the store
+pub stored_route : (w : Store) (x n : ℕ) → route_passes w (along (take n (drop (route_start x) w))) n ≡ route_passes w (route_of w x) n
+stored_route w x n =
+    route_same w _ _ n (λ j k. get_or-take n (drop (route_start x) w) j 0 k ∙ get_or-drop (route_start x) w j 0)

@@ -1,59 +1,47 @@
 // Whether a channel's record is sound: its own numbers, its route, how far it is, and its messages.
 #![tactic(auto)]
 
-ghost use Rattle.std.specs.Prelude.{◌≡◌, ◌≤◌, ◌<◌};
-ghost use Rattle.kinds.specs.Ranges.{most_links, most_channels, most_hops};
-ghost use Rattle.store.specs.Layout.{Long, links_of, hops_of, route_of};
+ghost use Rattle.std.specs.Prelude.{◌≡◌, ◌≤◌};
+ghost use Rattle.kinds.specs.Ranges.{most_links, most_hops};
+ghost use Rattle.store.specs.Layout.{links_of, hops_of, route_of};
 ghost use Rattle.folds.specs.Folds.{every};
 ghost use Rattle.store.specs.Route.{route_passes};
 ghost use Rattle.store.specs.Sound.{channel_fits, place_fits, channel_sound};
 
 use kinds::{Channel, Route};
-use store::channel;
+use store::channel::Record;
 
 // Checks 3, 4 and 5 of the first `n` links of a channel's route.
-fn route_passes(store: &[u64], x: usize, n: usize) -> bool
-    requires long { Long store.now }
-    requires store_bound { links_of store.now ≤ most_links }
-    requires x_lt_most_channels { x < most_channels }
+fn route_passes(channel: &Record, n: usize) -> bool
+    requires few_links { links_of channel.now.store ≤ most_links }
     requires n_le_most_hops { n ≤ most_hops }
-    ensures { result ≡ route_passes store.now (route_of store.now x) n }
+    ensures { result ≡ route_passes channel.now.store (route_of channel.now.store channel.now.x) n }
 {
-    store_route::passes(store, store, channel::route_start(x), n)
+    store_route::passes(&channel.store(), channel.route(n))
 }
 
 // Checks 1 to 5.
 #[tactic(auto, using(kinds::proofs::Laws::channel_is_ok, kinds::proofs::Laws::route_is_ok, kinds::proofs::Laws::within_true))]
-fn channel_fits(store: &[u64], x: usize) -> bool
-    requires long { Long store.now }
-    requires store_bound { links_of store.now ≤ most_links }
-    requires x_lt_most_channels { x < most_channels }
-    ensures { result ≡ channel_fits store.now x }
+fn channel_fits(channel: &Record) -> bool
+    requires few_links { links_of channel.now.store ≤ most_links }
+    ensures { result ≡ channel_fits channel.now.store channel.now.x }
 {
-    let good = Channel::new(
-        channel::c(store, x),
-        channel::p(store, x),
-        channel::d(store, x),
-        channel::b(store, x),
-    )
-    .is_ok();
-    let hops = channel::hops(store, x);
-    good && Route::new(hops).is_ok() && route_passes(store, x, hops)
+    let good = Channel::new(channel.c(), channel.p(), channel.d(), channel.b()).is_ok();
+    let hops = channel.hops();
+    good && Route::new(hops).is_ok() && route_passes(channel, hops)
 }
 
 // Whether at each place of the route the delay is 1 to p, and no more has been sent than has come.
 #[tactic(auto, using(folds::proofs::Folds::every_none, folds::proofs::Folds::every_more, store::proofs::Laws::Amounts::entered_later))]
-fn places_fit(store: &[u64], x: usize) -> bool
-    requires long { Long store.now }
-    requires x_lt_most_channels { x < most_channels }
-    requires x_bound { hops_of store.now x ≤ most_hops }
-    ensures { result ≡ every (place_fits store.now x) (hops_of store.now x) }
+fn places_fit(channel: &Record) -> bool
+    requires x_bound { hops_of channel.now.store channel.now.x ≤ most_hops }
+    ensures { result ≡ every (place_fits channel.now.store channel.now.x) (hops_of channel.now.store channel.now.x) }
 {
-    let p = channel::p(store, x);
-    let mut entered = store_route::entered(store, x, 0);
-    for j in 0..channel::hops(store, x) {
-        let delay = channel::delay(store, x, j);
-        let sent = channel::sent(store, x, j);
+    let p = channel.p();
+    let mut entered = store_route::entered(channel, 0);
+    for j in 0..channel.hops() {
+        let delay = channel.delay(j);
+        let sent = channel.sent(j);
         if delay < 1 || delay > p || sent > entered {
             return false;
         }
@@ -62,13 +50,11 @@ fn places_fit(store: &[u64], x: usize) -> bool
     true
 }
 
-// Whether channel `x` is sound.
+// Whether a channel is sound.
 #[tactic(auto, using(crate::proofs::Laws::small_delay))]
-pub fn channel_is_sound(store: &[u64], x: usize) -> bool
-    requires long { Long store.now }
-    requires store_bound { links_of store.now ≤ most_links }
-    requires x_lt_most_channels { x < most_channels }
-    ensures { result ≡ channel_sound store.now x }
+pub fn channel_is_sound(channel: &Record) -> bool
+    requires few_links { links_of channel.now.store ≤ most_links }
+    ensures { result ≡ channel_sound channel.now.store channel.now.x }
 {
-    channel_fits(store, x) && places_fit(store, x) && sound_messages::messages_fit(store, x)
+    channel_fits(channel) && places_fit(channel) && sound_messages::messages_fit(channel)
 }

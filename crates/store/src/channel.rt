@@ -1,5 +1,5 @@
 // The record of a channel: its numbers, its route, and how far its messages are. Message `n` is counted from 1.
-ghost use Rattle.std.specs.Prelude.{◌≡◌, ◌%◌, ◌≤◌, ◌<◌, take, drop};
+ghost use Rattle.std.specs.Prelude.{◌≡◌, ◌%◌, ◌≤◌, ◌<◌, length, take, drop};
 ghost use Rattle.kinds.specs.Ranges.{most_channels, most_hops};
 ghost use Rattle.store.specs.Layout.{Long, route_start, c_of, with_c, p_of, with_p, d_of, with_d, b_of, with_b, hops_of, with_hops};
 ghost use Rattle.store.specs.Layout.{messages_of, with_messages, route_of, with_route, delay_of, with_delay, sent_of, with_sent};
@@ -46,7 +46,8 @@ impl Record<'_> {
     // The first `n` links of its route.
     pub fn route(&self, n: usize) -> &[u64]
         requires { n ≤ most_hops }
-        ensures { result.now ≡ take n (drop (route_start self.now.x) self.now.store) }
+        ensures links { result.now ≡ take n (drop (route_start self.now.x) self.now.store) }
+        ensures len { length result.now ≡ n }
     {
         let start = CHANNELS + RECORD * self.x + 8;
         &self.numbers[start..start + n]

@@ -6,5 +6,5 @@ use Rattle.sound_channel.proofs.places_fit.Goals as goal
 
 pub returns-then-delay-lt1 : goal.returns-then-delay-lt1
 returns-then-delay-lt1 c =
-    let w = c.args.store.now in
-    sym (every_false (place_fits w c.args.x) (hops_of w c.args.x) c.loop-j.j (omega arith) (grind (arith, tests)))
+    let w = c.args.channel.now.store in
+    sym (every_false (place_fits w c.args.channel.now.x) (hops_of w c.args.channel.now.x) c.loop-j.j (omega arith) (grind (arith, tests)))

@@ -6,6 +6,6 @@ use Rattle.sound_channel.proofs.places_fit.Given as goal
 
 abbrev pub invariant-loop-j : goal.invariant-loop-j
 invariant-loop-j l = record {
-  come : l.entered ≡ entered_of l.store l.x l.j;
-  passed : every (place_fits l.store l.x) l.j ≡ true;
+  come : l.entered ≡ entered_of l.channel.store l.channel.x l.j;
+  passed : every (place_fits l.channel.store l.channel.x) l.j ≡ true;
 }
