@@ -1,4 +1,3 @@
 -- Laws of the store's links and rows.
 pub mod Counting
 pub mod Listed
-pub mod Whole

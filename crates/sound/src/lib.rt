@@ -17,13 +17,9 @@ fn counts_fit(store: &[u64]) -> bool
     requires { Long store.now }
     ensures { result ≡ counts_fit store.now }
 {
-    if !Network::links_fit(head::links(store)) {
-        return false;
-    }
-    if !Network::channels_fit(head::channels(store)) {
-        return false;
-    }
-    Slot::is_slot(head::clock(store))
+    Network::links_fit(head::links(store))
+        && Network::channels_fit(head::channels(store))
+        && Slot::is_slot(head::clock(store))
 }
 
 // Whether link `l` passes 16 and has no more rows than there is room for.
@@ -49,15 +45,7 @@ fn links_fit(store: &[u64]) -> bool
     requires store_value { counts_fit store.now ≡ true }
     ensures { result ≡ every (link_fits store.now) (links_of store.now) }
 {
-    let links = head::links(store);
-    let mut l: usize = 0;
-    while l < links {
-        if !link_fits(store, l) {
-            return false;
-        }
-        l += 1;
-    }
-    true
+    (0..head::links(store)).all(|l| link_fits(store, l))
 }
 
 // Whether every channel passes 1 to 5 and its messages are in order.
@@ -66,49 +54,38 @@ fn channels_sound(store: &[u64]) -> bool
     requires store_value { counts_fit store.now ≡ true }
     ensures { result ≡ every (channel_sound store.now) (channels_of store.now) }
 {
-    let channels = head::channels(store);
-    let mut x: usize = 0;
-    while x < channels {
-        if !sound_channel::channel_is_sound(store, x) {
-            return false;
-        }
-        x += 1;
-    }
-    true
+    (0..head::channels(store)).all(|x| sound_channel::channel_is_sound(store, x))
 }
 
 // How many rows the links have in all.
+#[tactic(auto, using(store::proofs::Laws::Sound::fit_rows, folds::proofs::Folds::sum_none, folds::proofs::Folds::sum_more))]
 fn all_rows(store: &[u64]) -> usize
     requires { Fit store.now }
     ensures { result ≡ sum_to (rows_of store.now) (links_of store.now) }
 {
-    let links = head::links(store);
     let mut sum: usize = 0;
-    let mut l: usize = 0;
-    while l < links {
+    for l in 0..head::links(store) {
         sum += link::rows(store, l);
-        l += 1;
     }
     sum
 }
 
 // How many places the routes have in all.
+#[tactic(auto, using(sound_rows::proofs::Laws::There::hops_most, folds::proofs::Folds::sum_none, folds::proofs::Folds::sum_more))]
 fn all_places(store: &[u64]) -> usize
     requires { Fit store.now }
     ensures { result ≡ sum_to (hops_of store.now) (channels_of store.now) }
 {
-    let channels = head::channels(store);
     let mut sum: usize = 0;
-    let mut x: usize = 0;
-    while x < channels {
+    for x in 0..head::channels(store) {
         sum += channel::hops(store, x);
-        x += 1;
     }
     sum
 }
 
 // Whether every place of every route is a row of its link. Rows that stand are places of routes, and rows in order are no
 // place twice: so every place is a row exactly if there are as many rows as places.
+#[tactic(auto, using(crate::proofs::Laws::Listed::counted))]
 fn all_listed(store: &[u64]) -> bool
     requires fit { Fit store.now }
     requires store_value { every (rows_sound store.now) (links_of store.now) ≡ true }
@@ -118,24 +95,14 @@ fn all_listed(store: &[u64]) -> bool
 }
 
 // Whether the store is sound: any numbers, and any length.
+#[tactic(auto, unfolding(store::specs::Sound::sound_of))]
 pub fn is_sound(store: &[u64]) -> bool
     ensures { result ≡ sound_of store.now }
 {
-    let short = store.len() < store::LENGTH;
-    if short {
-        return false;
-    }
-    if !counts_fit(store) {
-        return false;
-    }
-    if !links_fit(store) {
-        return false;
-    }
-    if !channels_sound(store) {
-        return false;
-    }
-    if !sound_rows::rows_sound(store) {
-        return false;
-    }
-    all_listed(store)
+    store.len() >= store::LENGTH
+        && counts_fit(store)
+        && links_fit(store)
+        && channels_sound(store)
+        && sound_rows::rows_sound(store)
+        && all_listed(store)
 }
