@@ -131,25 +131,15 @@ filled w l c p t t' g m e =
       lower = lower_rows w l c p t' headed (rows_of w l) m row;
     }
 
--- A loop that writes the rows of a link, from 0 up.
-pub record Putting (w : Store) (l : ℕ) (t₀ t : List ℕ) (k : ℕ) : Type 0 where
-  pub place : k ≤ rows_of w l
-  pub same : t ≡ table_written w l t₀ k
-
+-- A loop that writes the rows of a link, from 0 up: x and j are the row's channel and place, and c, p and d what stands with the
+-- channel, as they were read.
 module _ (w : Store) (l : ℕ) (t₀ : List ℕ) where
-  pub putting_none : Putting w l t₀ t₀ 0
+  pub written_none : t₀ ≡ table_written w l t₀ 0
   unfolding table_written
-  putting_none = record { place = omega arith; same = refl }
+  written_none = refl
 
-  -- x and j are the row's channel and place, and c, p and d what stands with the channel, as they were read
-  pub putting_more : (t : List ℕ) (k x j c p d : ℕ) → Putting w l t₀ t k → k < rows_of w l
-      → x ≡ row_channel_of w l k → j ≡ row_place_of w l k → c ≡ c_of w x → p ≡ p_of w x → d ≡ delay_of w x j
-      → Putting w l t₀ (set (set (set t (3 * k + 3) c) (3 * k + 3 + 1) p) (3 * k + 3 + 2) d) (k + 1)
+  pub written_more : (t : List ℕ) (k x j c p d : ℕ) → t ≡ table_written w l t₀ k → x ≡ row_channel_of w l k → j ≡ row_place_of w l k
+      → c ≡ c_of w x → p ≡ p_of w x → d ≡ delay_of w x j
+      → set (set (set t (3 * k + 3) c) (3 * k + 3 + 1) p) (3 * k + 3 + 2) d ≡ table_written w l t₀ (k + 1)
   unfolding table_written
-  putting_more t k x j c p d a h ex ej ec ep ed =
-      record { place = omega arith; same = rw (add-one k, table_written, a.same, ec, ep, ed, ex, ej) }
-
-  pub putting_done : (t : List ℕ) (k n : ℕ) → Putting w l t₀ t k → n ≡ rows_of w l → n ≤ k → t ≡ table_written w l t₀ (rows_of w l)
-  putting_done t k n a e h =
-      let i : k ≡ rows_of w l = omega (arith, a.place) in
-      rw i at a.same
+  written_more t k x j c p d e ex ej ec ep ed = rw (add-one k, table_written, e, ec, ep, ed, ex, ej)

@@ -5,7 +5,7 @@
 ghost use Rattle.std.specs.Prelude.{◌≡◌, true, ◌≤◌, ◌<◌, length, replicate};
 ghost use Rattle.kinds.specs.Ranges.{most_hops, in_range_c, in_range_p};
 ghost use Rattle.store.specs.Layout.{links_of, rows_of};
-ghost use Rattle.folds.specs.Folds.{every, first_not};
+ghost use Rattle.folds.specs.Folds.{every, failing, first_not};
 ghost use Rattle.store.specs.Route.{from, exists};
 ghost use Rattle.store.specs.Sound.{sound_of};
 ghost use Rattle.open_rules.specs.Search.{responds, responses as responses_of};
@@ -13,56 +13,54 @@ ghost use Rattle.open_rules.specs.Shares.{eight};
 ghost use Rattle.open_search.specs.Table.{table_written};
 
 use kinds::{Channel, Link, Route};
-use response::{Answer, response_under};
+use response::response_under;
 use store::{channel, link};
 
 // Link `l`'s rows, C, p and delay of each, below the new channel, which is the table's first row.
+#[tactic(auto, using(store::proofs::Laws::Sound::sound_is, open_rules::proofs::Laws::Ranged::link_most, open_rules::proofs::Laws::Ranged::rows_most, open_rules::proofs::Laws::Ranged::channel_most, open_rules::proofs::Laws::Ranged::place_most))]
 fn put_rows(store: &[u64], l: usize, table: &mut [u64; 3 * Link::MOST_ROWS + 3])
     requires store_value { sound_of store.now ≡ true }
     requires l_bound { l < links_of store.now }
     ensures { table.new
         ≡ table_written store.now l table.old (rows_of store.now l) }
 {
-    let rows = link::rows(store, l);
-    let mut k: usize = 0;
-    while k < rows {
+    for k in 0..link::rows(store, l) {
         let x = link::row_channel(store, l, k);
         let j = link::row_place(store, l, k);
         let at = 3 * k + 3;
         table[at] = channel::c(store, x);
         table[at + 1] = channel::p(store, x);
         table[at + 2] = channel::delay(store, x, j);
-        k += 1;
     }
 }
 
-// Writes the response at each place of the route, up to the first that has none; answers that place, or the route's length. Its
-// table is on the stack only while it runs.
+// Writes the response at each place of the route, up to the first that has none, which is the answer. Its table is on the stack
+// only while it runs.
 #[inline(never)]
+#[tactic(auto, using(crate::proofs::Steps::link_there, store::proofs::Laws::Sound::sound_is, open_rules::proofs::Laws::Ranged::link_most))]
 pub fn responses(
     store: &[u64],
     asked: Channel,
     route: &[u64],
     found: &mut [u64; Route::MOST_HOPS],
-) -> usize
+) -> Option<usize>
     requires store_value { sound_of store.now ≡ true }
     requires c_value { in_range_c asked.c ≡ true }
     requires p_value { in_range_p asked.p ≡ true }
     requires route_len_bound { length route.now ≤ most_hops }
     requires route_value { every (exists store.now (from route.now 0)) (length route.now) ≡ true }
     requires found_value { found.old ≡ replicate 8 0 }
-    ensures value { result ≡ first_not (responds store.now asked.c asked.p (from route.now 0))
-        (length route.now) }
+    ensures value { result ≡ failing (responds store.now asked.c asked.p (from route.now 0)) (length route.now) }
     ensures found_after { found.new
-        ≡ eight (responses_of store.now asked.c asked.p (from route.now 0)) result }
+        ≡ eight (responses_of store.now asked.c asked.p (from route.now 0))
+        (first_not (responds store.now asked.c asked.p (from route.now 0)) (length route.now)) }
 {
     let mut table = [0u64; 3 * Link::MOST_ROWS + 3];
     table[0] = asked.c;
     table[1] = asked.p;
-    let mut place = route.len();
-    let mut j: usize = 0;
-    'search: while j < route.len() {
-        let l = route[j] as usize;
+    let mut silent = None;
+    'search: for (j, &l) in route.iter().enumerate() {
+        let l = l as usize;
         put_rows(store, l, &mut table);
         // every row after position q has a response below the new channel
         let mut q = link::rows(store, l);
@@ -70,19 +68,18 @@ pub fn responses(
             if q > 0 {
                 let own = table[3 * q];
                 let delay = table[3 * q + 2];
-                if let Answer::Found(_, _) = response_under(&table[..3 * q], own, delay) {
+                if let Some(_) = response_under(&table[..3 * q], own, delay).response {
                     q -= 1;
                     continue;
                 }
             }
-            let Answer::Found(r, _) = response_under(&table[3..3 * q + 3], asked.c, asked.p) else {
-                place = j;
+            let Some(r) = response_under(&table[3..3 * q + 3], asked.c, asked.p).response else {
+                silent = Some(j);
                 break 'search;
             };
             found[j] = r;
             break;
         }
-        j += 1;
     }
-    place
+    silent
 }
