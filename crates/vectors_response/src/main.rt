@@ -4,8 +4,8 @@
 
 ghost use Rattle.std.specs.Prelude.{◌≤◌};
 
-use kinds::Link;
-use response::{Answer, Reply, Row};
+use kinds::{Link, Refusal};
+use response::{Answer, Row};
 use std::io;
 
 fn print_number(rt: &impl Print, label: &[u8], n: u64) -> io::Result<()> {
@@ -25,21 +25,19 @@ fn print_all(rt: &impl Print, table: &[u64]) -> io::Result<()> {
 }
 
 fn print_answer(rt: &impl Print, answer: Answer) -> io::Result<()> {
-    match answer {
-        Answer::Found(r, trials) => {
-            print_number(rt, b" : response ", r)?;
-            print_number(rt, b" trials ", trials)
-        }
-        Answer::Nothing(trials) => print_number(rt, b" : none trials ", trials),
+    match answer.response {
+        Some(r) => print_number(rt, b" : response ", r)?,
+        None => rt.write_all(b" : none")?,
     }
+    print_number(rt, b" trials ", answer.trials)
 }
 
-fn print_reply(rt: &impl Print, reply: Reply) -> io::Result<()> {
+fn print_reply(rt: &impl Print, reply: Result<Answer, Refusal>) -> io::Result<()> {
     match reply {
-        Reply::Answered(answer) => print_answer(rt, answer),
-        Reply::Refused(number, place) => {
-            print_number(rt, b" : refused ", number)?;
-            print_next(rt, place)
+        Ok(answer) => print_answer(rt, answer),
+        Err(refusal) => {
+            print_number(rt, b" : refused ", refusal.number())?;
+            print_next(rt, refusal.place())
         }
     }
 }
@@ -117,12 +115,10 @@ fn equal_rows(rt: &impl Print, rows: usize, c: u64, p: u64) -> io::Result<()>
     requires { rows ≤ 33 }
 {
     let mut table = [0u64; 3 * Link::MOST_ROWS + 3];
-    let mut at: usize = 0;
-    while at < 97 {
-        table[at] = c;
-        table[at + 1] = p;
-        table[at + 2] = p;
-        at += 3;
+    for row in table.chunks_exact_mut(3) {
+        row[0] = c;
+        row[1] = p;
+        row[2] = p;
     }
     work(rt, &table[..3 * rows], 1, 60_000)
 }
