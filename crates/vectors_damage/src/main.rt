@@ -11,8 +11,6 @@ ghost use Rattle.store.specs.Layout.{Long};
 use std::io;
 use store::{channel, head, link};
 
-const LARGEST: u64 = 18_446_744_073_709_551_615;
-
 // A channel's numbers.
 fn put_numbers(store: &mut [u64], x: usize, packets: u64, p: u64, d: u64, b: u64)
     requires long { Long store.old }
@@ -131,31 +129,14 @@ fn print_verdict(rt: &impl Print, sound: bool) -> io::Result<()> {
     }
 }
 
-fn print_line(
-    rt: &impl Print,
-    at: usize,
-    value: u64,
-    more: bool,
-    less: bool,
-    zero: bool,
-    largest: bool,
-) -> io::Result<()> {
+fn print_line(rt: &impl Print, at: usize, value: u64, verdicts: &[bool]) -> io::Result<()> {
     rt.print(at as u64)?;
     rt.write_all(b" ")?;
     rt.print(value)?;
-    print_verdict(rt, more)?;
-    print_verdict(rt, less)?;
-    print_verdict(rt, zero)?;
-    print_verdict(rt, largest)?;
+    for sound in verdicts {
+        print_verdict(rt, *sound)?;
+    }
     rt.write_all(b"\n")
-}
-
-fn one_more(n: u64) -> u64 {
-    if n < LARGEST { n + 1 } else { n }
-}
-
-fn one_less(n: u64) -> u64 {
-    if n > 0 { n - 1 } else { n }
 }
 
 // Damages one number, and prints its line if that can be seen.
@@ -164,26 +145,26 @@ fn damage(rt: &impl Print, store: &mut [u64], at: usize) -> io::Result<bool> {
         return Ok(false);
     }
     let value = store[at];
-    let more = is_sound_with(store, at, one_more(value));
-    let less = is_sound_with(store, at, one_less(value));
-    let zero = is_sound_with(store, at, 0);
-    let largest = is_sound_with(store, at, LARGEST);
-    if more && (less && (zero && largest)) {
+    let verdicts = [
+        is_sound_with(store, at, value.saturating_add(1)),
+        is_sound_with(store, at, value.saturating_sub(1)),
+        is_sound_with(store, at, 0),
+        is_sound_with(store, at, u64::MAX),
+    ];
+    if verdicts.iter().all(|sound| *sound) {
         return Ok(false);
     }
-    print_line(rt, at, value, more, less, zero, largest)?;
+    print_line(rt, at, value, &verdicts)?;
     Ok(true)
 }
 
 // Damages every number, and returns how many of them matter.
 fn damage_all(rt: &impl Print, store: &mut [u64]) -> io::Result<u64> {
-    let mut matter: u64 = 0;
-    let mut at: usize = 0;
-    while at < store.len() {
+    let mut matter = 0;
+    for at in 0..store.len() {
         if damage(rt, store, at)? {
             matter += 1;
         }
-        at += 1;
     }
     Ok(matter)
 }
