@@ -12,6 +12,8 @@ use Rattle.response.specs.Numbers.{rows_in}
 use Rattle.response.proofs.Laws.Numbers.{row_at as row_in}
 use Rattle.store.specs.Layout.{Store, number_at, rows_of, row_channel_of, row_place_of, c_of, p_of, delay_of}
 use Rattle.folds.proofs.Folds.{below}
+use Rattle.store.proofs.Laws.Sound.{sound_is}
+use Rattle.open_rules.proofs.Laws.Ranged.{link_most, rows_most, channel_most, place_most}
 use Rattle.open_rules.specs.Search.{row_at, rows_to, new_row}
 use Rattle.open_search.specs.Table.{put_row, table_written}
 
@@ -143,3 +145,6 @@ module _ (w : Store) (l : ℕ) (t₀ : List ℕ) where
       → set (set (set t (3 * k + 3) c) (3 * k + 3 + 1) p) (3 * k + 3 + 2) d ≡ table_written w l t₀ (k + 1)
   unfolding table_written
   written_more t k x j c p d e ex ej ec ep ed = rw (add-one k, table_written, e, ec, ep, ed, ex, ej)
+
+-- where a row of a sound store says that it stands, for what a read of it asks
+pub ruleset places_most = (sound_is, link_most, rows_most, channel_most, place_most)

@@ -17,7 +17,7 @@ use response::response_under;
 use store::{channel, link};
 
 // Link `l`'s rows, C, p and delay of each, below the new channel, which is the table's first row.
-#[tactic(auto, using(store::proofs::Laws::Sound::sound_is, open_rules::proofs::Laws::Ranged::link_most, open_rules::proofs::Laws::Ranged::rows_most, open_rules::proofs::Laws::Ranged::channel_most, open_rules::proofs::Laws::Ranged::place_most))]
+#[tactic(auto, using(crate::proofs::Table::places_most))]
 fn put_rows(store: &[u64], l: usize, table: &mut [u64; 3 * Link::MOST_ROWS + 3])
     requires store_value { sound_of store.now ≡ true }
     requires l_bound { l < links_of store.now }
@@ -37,7 +37,7 @@ fn put_rows(store: &[u64], l: usize, table: &mut [u64; 3 * Link::MOST_ROWS + 3])
 // Writes the response at each place of the route, up to the first that has none, which is the answer. Its table is on the stack
 // only while it runs.
 #[inline(never)]
-#[tactic(auto, using(crate::proofs::Steps::link_there, store::proofs::Laws::Sound::sound_is, open_rules::proofs::Laws::Ranged::link_most))]
+#[tactic(auto, using(crate::proofs::Steps::link_there, crate::proofs::Table::places_most))]
 pub fn responses(
     store: &[u64],
     asked: Channel,

@@ -111,7 +111,7 @@ fn is_askable(table: &[u64], own: u64, limit: u64) -> bool
 }
 
 // The public call: the response-time calculation by itself, on any numbers.
-#[tactic(auto, using(crate::proofs::Laws::Alone::refused, crate::proofs::Laws::Alone::answered, crate::proofs::Laws::Alone::askable_workable))]
+#[tactic(auto, using(crate::proofs::Laws::Alone::by_checks))]
 pub fn response_alone(table: &[u64], own: u64, limit: u64) -> Result<Answer, Refusal>
     ensures { result ≡ alone_on table.now own limit }
 {

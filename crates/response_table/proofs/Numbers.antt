@@ -78,6 +78,9 @@ filled_all rows i end few =
     ap (filled rows) end ∙ filled_first rows (length rows) (le_refl (length rows)) few
     ∙ ap (λ (t : List Row). numbers_of t ++ zeros (length rows)) (take-length rows)
 
+-- for the proof of the loop
+pub ruleset filling = (filled_none, filled_more, filled_all)
+
 -- ---- the numbers are read back as the rows
 pub length_numbers_of : (rows : List Row) → length (numbers_of rows) ≡ 3 * length rows
 unfolding numbers_of

@@ -21,7 +21,7 @@ fn put_row(numbers: &mut [u64; 3 * Link::MOST_ROWS], i: usize, row: &Row)
 }
 
 // C, p and delay of each row in turn, then zeros.
-#[tactic(auto, using(crate::proofs::Numbers::filled_none, crate::proofs::Numbers::filled_more, crate::proofs::Numbers::filled_all))]
+#[tactic(auto, using(crate::proofs::Numbers::filling))]
 fn numbers_of(rows: &[Row]) -> [u64; 3 * Link::MOST_ROWS]
     requires { length rows.now ≤ most_rows }
     ensures { result ≡ filled_of rows.now }

@@ -49,3 +49,6 @@ module _ (t : List ℕ) (own limit : ℕ) where
         },
         (within_true 1 most_p limit l.0).1,
       )
+
+-- for the call's own proof
+pub ruleset by_checks = (refused, answered, askable_workable)
