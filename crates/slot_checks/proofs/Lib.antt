@@ -1,2 +1,1 @@
 pub mod Room
-pub mod Checks

@@ -3,7 +3,8 @@ use Prim.Native.Nat.{ℕ, ◌≤◌, ◌<◌}
 use mathlib.Core.Path.{◌≡◌}
 use mathlib.Core.Bool.{true}
 use Rattle.kinds.specs.Ranges.{most_links, most_channels, most_rows, most_hops, most_horizon, end_slot}
-use Rattle.store.specs.Layout.{Store, Long, links_of, channels_of, clock_of, horizon_of, rows_of, row_channel_of, row_place_of, hops_of, IsChannel}
+use Rattle.store.specs.Layout.{Store, Long, links_of, channels_of, clock_of, horizon_of, rows_of, row_channel_of, row_place_of, hops_of, route_of, sent_of, IsChannel}
+use Rattle.store.specs.Amounts.{entered_of}
 use Rattle.store.specs.Sound.{sound_of}
 use Rattle.store.specs.Ranged.{Ranged}
 use Rattle.store.proofs.Laws.Sound.{sound_is}
@@ -50,7 +51,13 @@ module _ (w : Store) (e : sound_of w ≡ true) where
   pub place_small : (x j : ℕ) → IsChannel w x → j < hops_of w x → j < most_hops
   place_small = few_places (sound_is w e)
 
+  pub sent_most : (x j : ℕ) → IsChannel w x → j < hops_of w x → sent_of w x j ≤ entered_of w x j
+  sent_most x j h i = ((sound_is w e).channel x h).course.flows j i
+
+  pub place_has_link : (x j : ℕ) → IsChannel w x → j < hops_of w x → route_of w x j < links_of w
+  place_has_link x j h i = ((sound_is w e).channel x h).route.known j i
+
   pub place_in_range : (x j : ℕ) → IsChannel w x → j < hops_of w x → Ranged w x
   place_in_range = place_ranged w e
 
-pub ruleset ready = (long_enough, clock_small, links_few, channels_few, link_small, horizon_small, rows_few, row_small, row_has_channel, row_has_place, channel_small, hops_few, place_small, place_in_range)
+pub ruleset ready = (long_enough, clock_small, links_few, channels_few, link_small, horizon_small, rows_few, row_small, row_has_channel, row_has_place, channel_small, hops_few, place_small, sent_most, place_has_link, place_in_range)
