@@ -46,3 +46,5 @@ module _ (first : Text) (count : ℕ) where
         neither _ (eqb count 1) (λ s t. d s (eqb-true count 1 t)),
         asked,
       )
+
+pub ruleset found = (link_found, open_found, offer_found, tick_found, none_found)

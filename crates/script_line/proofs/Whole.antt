@@ -1,4 +1,4 @@
--- A whole line, where it is not too long: a word behind the first is no number, or all are.
+-- A whole line: it is too long, or a word behind the first is no number, or all are.
 use Prim.Native.Nat.{ℕ, ◌≤◌}
 use mathlib.Core.Path.{◌≡◌, refl}
 use mathlib.Core.Bool.{Bool, true, false}
@@ -8,9 +8,11 @@ use lib.ListN.{length}
 use Rattle.std.specs.Prelude.{Some, None}
 use Rattle.text_decimal.specs.Decimal.{Text}
 use Rattle.text_decimal.specs.Word.{first_word}
+use Rattle.text_decimal.proofs.Laws.Put.{put_none}
 use Rattle.script_line.specs.declared.Line.TheVariants.{Bad}
 use Rattle.script_line.specs.Line.{words, behind, all_numbers, leading, asked, most_bytes, read_line, numbers_of}
 use Rattle.script_line.specs.Count.{count_of}
+use Rattle.script_line.proofs.Laws.Cut.{long_bad, long_numbers}
 
 module _ (line : Text) (short : length line ≤ most_bytes) where
   pub short_numbers : numbers_of line ≡ leading (behind (words line))
@@ -39,3 +41,5 @@ module _ (line : Text) (short : length line ≤ most_bytes) where
       go false e =
           let f : count_of (behind (words line)) ≡ None = rw (e, count_of) in
           absurd (let z : ◌≡◌ {A = ℕ} 0 1 = cc in omega arith)
+
+pub ruleset whole = (long_bad, long_numbers, short_bad, short_asked, short_numbers, put_none)

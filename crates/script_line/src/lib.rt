@@ -39,7 +39,7 @@ pub fn is_link(line: &[u8]) -> bool
 }
 
 // What is asked by a line with so many numbers.
-#[tactic(auto, using(crate::proofs::Asking::link_found, crate::proofs::Asking::open_found, crate::proofs::Asking::offer_found, crate::proofs::Asking::tick_found, crate::proofs::Asking::none_found))]
+#[tactic(auto, using(crate::proofs::Asking::found))]
 fn asked(line: &[u8], count: usize) -> Line
     ensures { result ≡ asked (first_word line.now) count }
 {
@@ -75,7 +75,7 @@ fn read_numbers(line: &[u8], numbers: &mut [u64]) -> Option<usize>
 }
 
 // What a line asks, and its numbers at the front of `numbers`, as far as they read.
-#[tactic(auto, using(crate::proofs::Laws::Cut::long_bad, crate::proofs::Laws::Cut::long_numbers, crate::proofs::Whole::short_bad, crate::proofs::Whole::short_asked, crate::proofs::Whole::short_numbers, text_decimal::proofs::Laws::Put::put_none))]
+#[tactic(auto, using(crate::proofs::Whole::whole))]
 pub fn read(line: &[u8], numbers: &mut [u64; MOST_NUMBERS]) -> Line
     ensures value { result ≡ read_line line.now }
     ensures numbers_after { numbers.new ≡ put_at numbers.old 0 (numbers_of line.now) }

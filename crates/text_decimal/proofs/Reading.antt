@@ -74,6 +74,8 @@ module _ (word : Text) where
       unfolding all_digits value_from
       valued_more e next n h = record { fits = h; digits = r.digits ∙ rw (at, e); said = r.said ∙ rw (at, n) }
 
+pub ruleset valued = (number_empty, valued_bad, valued_large, valued_done)
+
 -- the number that stands at a place is that of the word there
 module _ (text : Text) (from : ℕ) where
   module _ (word : Text) (there : word ≡ word_at text from) where

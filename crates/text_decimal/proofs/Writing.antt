@@ -115,3 +115,5 @@ module _ (old : List ℕ) (at n : ℕ) where
         let e : i ≡ at = omega (arith, w.begun) in
         let f : i - at ≡ 0 = omega arith in
         rw (w.stands, w.left, f, e)
+
+pub ruleset written = (decimal_length, written_none, written_more, written_done)

@@ -30,7 +30,7 @@ fn extended(value: u64, digit: u8) -> Option<u64>
 }
 
 // The number that a word is.
-#[tactic(auto, using(crate::proofs::Reading::number_empty, crate::proofs::Reading::valued_bad, crate::proofs::Reading::valued_large, crate::proofs::Reading::valued_done))]
+#[tactic(auto, using(crate::proofs::Reading::valued))]
 fn number_of(word: &[u8]) -> Option<u64>
     ensures { result ≡ number_of word.now }
 {
@@ -72,7 +72,7 @@ fn digits(n: u64) -> usize
 }
 
 // Writes a number into `out` from `at` on: where it ends. A number has at most 20 digits.
-#[tactic(auto, using(crate::proofs::Laws::Decimal::decimal_length, crate::proofs::Writing::written_none, crate::proofs::Writing::written_more, crate::proofs::Writing::written_done))]
+#[tactic(auto, using(crate::proofs::Writing::written))]
 pub fn write(out: &mut [u8], at: usize, n: u64) -> usize
     requires { at + 20 ≤ length out.old }
     ensures value { result ≡ at + length (decimal n) }
