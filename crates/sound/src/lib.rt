@@ -2,83 +2,71 @@
 // is one pass over plain numbers. A part reads only what the parts before it have found in range.
 #![tactic(auto)]
 
-ghost use Rattle.std.specs.Prelude.{◌≡◌, true, ◌<◌};
+ghost use Rattle.std.specs.Prelude.{◌≡◌, true, ◌<◌, if◌then◌else◌};
+ghost use Rattle.std.specs.declared.option.Option.TheVariants.{None, Some};
 ghost use Rattle.kinds.specs.Ranges.{most_links};
-ghost use Rattle.store.specs.Layout.{Long, links_of, channels_of, rows_of, hops_of};
+ghost use Rattle.store.specs.Layout.{links_of, channels_of, rows_of, hops_of};
 ghost use Rattle.folds.specs.Folds.{every, sum_to};
 ghost use Rattle.store.specs.Sound.{counts_fit, link_fits, channel_sound, rows_sound, all_listed, sound_of};
-ghost use Rattle.store.specs.Ranged.{Fit};
 
 use kinds::{Link, Network, Slot};
-use store::{channel, head, link};
+use store::lent::{Fitting, Lent, Sound};
+use store::link::Record;
 
 // Whether the counts of the head and the clock are in range.
-fn counts_fit(store: &[u64]) -> bool
-    requires { Long store.now }
+fn counts_fit(store: &Lent) -> bool
     ensures { result ≡ counts_fit store.now }
 {
-    Network::links_fit(head::links(store))
-        && Network::channels_fit(head::channels(store))
-        && Slot::is_slot(head::clock(store))
+    Network::links_fit(store.links())
+        && Network::channels_fit(store.channels())
+        && Slot::is_slot(store.clock())
 }
 
-// Whether link `l` passes 16 and has no more rows than there is room for.
+// Whether a link passes 16 and has no more rows than there is room for.
 #[tactic(auto, using(kinds::proofs::Laws::link_is_ok))]
-fn link_fits(store: &[u64], l: usize) -> bool
-    requires long { Long store.now }
-    requires l_lt_most_links { l < most_links }
-    ensures { result ≡ link_fits store.now l }
+fn link_fits(link: &Record) -> bool
+    ensures { result ≡ link_fits link.now.store link.now.l }
 {
-    let good = Link::new(
-        link::from(store, l),
-        link::to(store, l),
-        link::horizon(store, l),
-        link::buffer(store, l),
-    )
-    .is_ok();
-    good && Link::rows_fit(link::rows(store, l))
+    let good = Link::new(link.from(), link.to(), link.horizon(), link.buffer()).is_ok();
+    good && Link::rows_fit(link.rows())
 }
 
 // Whether every link does.
-fn links_fit(store: &[u64]) -> bool
-    requires long { Long store.now }
-    requires store_value { counts_fit store.now ≡ true }
+fn links_fit(store: &Lent) -> bool
+    requires { counts_fit store.now ≡ true }
     ensures { result ≡ every (link_fits store.now) (links_of store.now) }
 {
-    (0..head::links(store)).all(|l| link_fits(store, l))
+    (0..store.links()).all(|l| link_fits(&store.link(l)))
 }
 
 // Whether every channel passes 1 to 5 and its messages are in order.
-fn channels_sound(store: &[u64]) -> bool
-    requires long { Long store.now }
-    requires store_value { counts_fit store.now ≡ true }
+fn channels_sound(store: &Lent) -> bool
+    requires { counts_fit store.now ≡ true }
     ensures { result ≡ every (channel_sound store.now) (channels_of store.now) }
 {
-    (0..head::channels(store)).all(|x| sound_channel::channel_is_sound(store, x))
+    (0..store.channels()).all(|x| sound_channel::channel_is_sound(&store.channel(x)))
 }
 
 // How many rows the links have in all.
 #[tactic(auto, using(store::proofs::Laws::Sound::fit_rows, folds::proofs::Folds::sum_none, folds::proofs::Folds::sum_more))]
-fn all_rows(store: &[u64]) -> usize
-    requires { Fit store.now }
+fn all_rows(store: &Fitting) -> usize
     ensures { result ≡ sum_to (rows_of store.now) (links_of store.now) }
 {
     let mut sum: usize = 0;
-    for l in 0..head::links(store) {
-        sum += link::rows(store, l);
+    for l in 0..store.links() {
+        sum += store.link(l).rows();
     }
     sum
 }
 
 // How many places the routes have in all.
 #[tactic(auto, using(sound_rows::proofs::Laws::There::hops_most, folds::proofs::Folds::sum_none, folds::proofs::Folds::sum_more))]
-fn all_places(store: &[u64]) -> usize
-    requires { Fit store.now }
+fn all_places(store: &Fitting) -> usize
     ensures { result ≡ sum_to (hops_of store.now) (channels_of store.now) }
 {
     let mut sum: usize = 0;
-    for x in 0..head::channels(store) {
-        sum += channel::hops(store, x);
+    for x in 0..store.channels() {
+        sum += store.channel(x).hops();
     }
     sum
 }
@@ -86,9 +74,8 @@ fn all_places(store: &[u64]) -> usize
 // Whether every place of every route is a row of its link. Rows that stand are places of routes, and rows in order are no
 // place twice: so every place is a row exactly if there are as many rows as places.
 #[tactic(auto, using(crate::proofs::Laws::Listed::counted))]
-fn all_listed(store: &[u64]) -> bool
-    requires fit { Fit store.now }
-    requires store_value { every (rows_sound store.now) (links_of store.now) ≡ true }
+fn all_listed(store: &Fitting) -> bool
+    requires { every (rows_sound store.now) (links_of store.now) ≡ true }
     ensures { result ≡ every (all_listed store.now) (channels_of store.now) }
 {
     all_rows(store) == all_places(store)
@@ -99,10 +86,24 @@ fn all_listed(store: &[u64]) -> bool
 pub fn is_sound(store: &[u64]) -> bool
     ensures { result ≡ sound_of store.now }
 {
-    store.len() >= store::LENGTH
-        && counts_fit(store)
-        && links_fit(store)
-        && channels_sound(store)
-        && sound_rows::rows_sound(store)
-        && all_listed(store)
+    if store.len() < store::LENGTH {
+        return false;
+    }
+    let lent = Lent::new(store);
+    if !(counts_fit(&lent) && links_fit(&lent) && channels_sound(&lent)) {
+        return false;
+    }
+    let fitting = Fitting::new(store);
+    sound_rows::rows_sound(&fitting) && all_listed(&fitting)
+}
+
+// The store as one that is sound, where it is.
+pub fn check(store: &[u64]) -> Option<Sound<'_>>
+    ensures { result ≡ (if sound_of store.now then Some store.now else None) }
+{
+    if is_sound(store) {
+        Some(Sound::new(store))
+    } else {
+        None
+    }
 }

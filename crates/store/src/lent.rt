@@ -70,7 +70,7 @@ impl Lent<'_> {
 // Its counts, its links and its channels are sound: what its rows may rely on.
 #[derive(Drop)]
 pub struct Fitting<'a> {
-    pub store: Lent<'a>,
+    store: Lent<'a>,
 }
 
 impl<'a> Model for Fitting<'a> {
@@ -84,10 +84,52 @@ impl<'a> Model for Fitting<'a> {
     ghost invariant = { λ s. Fit s.store };
 }
 
+impl Fitting<'_> {
+    // For the crates above, which know it.
+    pub fn new(numbers: &[u64]) -> Fitting<'_>
+        requires { Fit numbers.now }
+        ensures { result ≡ numbers.now }
+    {
+        Fitting {
+            store: Lent::new(numbers),
+        }
+    }
+
+    pub fn links(&self) -> usize
+        ensures value { result ≡ links_of self.now }
+        ensures fits { Fit self.now }
+    {
+        self.store.links()
+    }
+
+    pub fn channels(&self) -> usize
+        ensures value { result ≡ channels_of self.now }
+        ensures fits { Fit self.now }
+    {
+        self.store.channels()
+    }
+
+    pub fn link(&self, l: usize) -> link::Record<'_>
+        requires { l < links_of self.now }
+        ensures value { result ≡ record { store = self.now; l = l } }
+        ensures fits { Fit self.now }
+    {
+        self.store.link(l)
+    }
+
+    pub fn channel(&self, x: usize) -> channel::Record<'_>
+        requires { IsChannel self.now x }
+        ensures value { result ≡ record { store = self.now; x = x } }
+        ensures fits { Fit self.now }
+    {
+        self.store.channel(x)
+    }
+}
+
 // It is sound.
 #[derive(Drop)]
 pub struct Sound<'a> {
-    pub store: Lent<'a>,
+    store: Lent<'a>,
 }
 
 impl<'a> Model for Sound<'a> {
@@ -112,17 +154,40 @@ impl Sound<'_> {
         }
     }
 
+    pub fn links(&self) -> usize
+        ensures value { result ≡ links_of self.now }
+        ensures sound { sound_of self.now ≡ true }
+    {
+        self.store.links()
+    }
+
+    pub fn channels(&self) -> usize
+        ensures value { result ≡ channels_of self.now }
+        ensures sound { sound_of self.now ≡ true }
+    {
+        self.store.channels()
+    }
+
     pub fn link(&self, l: usize) -> link::Record<'_>
         requires { l < links_of self.now }
-        ensures { result ≡ record { store = self.now; l = l } }
+        ensures value { result ≡ record { store = self.now; l = l } }
+        ensures sound { sound_of self.now ≡ true }
     {
         self.store.link(l)
     }
 
     pub fn channel(&self, x: usize) -> channel::Record<'_>
         requires { IsChannel self.now x }
-        ensures { result ≡ record { store = self.now; x = x } }
+        ensures value { result ≡ record { store = self.now; x = x } }
+        ensures sound { sound_of self.now ≡ true }
     {
         self.store.channel(x)
+    }
+
+    pub fn clock(&self) -> u64
+        ensures value { result ≡ clock_of self.now }
+        ensures sound { sound_of self.now ≡ true }
+    {
+        self.store.clock()
     }
 }
