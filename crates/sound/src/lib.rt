@@ -8,6 +8,7 @@ ghost use Rattle.kinds.specs.Ranges.{most_links};
 ghost use Rattle.store.specs.Layout.{links_of, channels_of, rows_of, hops_of};
 ghost use Rattle.folds.specs.Folds.{every, sum_to};
 ghost use Rattle.store.specs.Sound.{counts_fit, link_fits, channel_sound, rows_sound, all_listed, sound_of};
+ghost use Rattle.store.specs.Ranged.{Fit};
 
 use kinds::{Link, Network, Slot};
 use store::lent::{Fitting, Lent, Sound};
@@ -50,7 +51,8 @@ fn channels_sound(store: &Lent) -> bool
 // How many rows the links have in all.
 #[tactic(auto, using(store::proofs::Laws::Sound::fit_rows, folds::proofs::Folds::sum_none, folds::proofs::Folds::sum_more))]
 fn all_rows(store: &Fitting) -> usize
-    ensures { result ≡ sum_to (rows_of store.now) (links_of store.now) }
+    ensures fits { Fit store.now }
+    ensures value { result ≡ sum_to (rows_of store.now) (links_of store.now) }
 {
     let mut sum: usize = 0;
     for l in 0..store.links() {
