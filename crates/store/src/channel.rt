@@ -144,11 +144,7 @@ pub fn clear(store: &mut [u64], x: usize)
     ensures { store.new ≡ cleared store.old x record_length }
 {
     let start = CHANNELS + RECORD * x;
-    let mut i: usize = 0;
-    while i < RECORD {
-        store[start + i] = 0;
-        i += 1;
-    }
+    store[start..start + RECORD].fill(0);
 }
 
 pub fn c(store: &[u64], x: usize) -> u64
@@ -349,6 +345,7 @@ pub fn ring_place(n: u64) -> usize
     (n % RING) as usize
 }
 
+#[tactic(auto, using(crate::proofs::Laws::Ring::before_first, crate::proofs::Laws::Ring::before_later))]
 pub fn place_before(at: usize) -> usize
     requires { at < ring }
     ensures value { result ≡ place_before at }

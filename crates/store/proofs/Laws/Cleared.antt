@@ -3,8 +3,11 @@ use Prim.Native.Nat.{ℕ, zero, suc, ◌+◌, ◌≤◌, ◌<◌}
 use mathlib.Core.Path.{◌≡◌, refl}
 use native.Mathlib.Numerals.{add-one}
 use native.Mathlib.Omega.{arith}
-use lib.ListN.{length}
-use Rattle.store.specs.Layout.{Store, channel_at, record_length, number_at, with_number, cleared}
+use lib.ListN.{length, replicate}
+use lib.Seq.{paste}
+use Rattle.std.proofs.Common.{[]}
+use Rattle.std.proofs.lemmas.List.Edits.{paste_none, fill_from_more}
+use Rattle.store.specs.Layout.{Store, channel_at, number_at, cleared}
 use Rattle.folds.proofs.Folds.{below}
 use Rattle.store.proofs.Laws.Layout.{written, beside, as_long}
 
@@ -30,25 +33,10 @@ module _ (w : Store) (x : ℕ) where
       (λ m. rw (beside (cleared w x n) (channel_at x + n) 0 at (λ e. omega arith)) (cleared_zero n at a m (omega arith)))
       (λ s. rw s (written (cleared w x n) (channel_at x + n) 0 (omega (arith, cleared_length n))))
 
--- a loop that clears, from 0 up
-pub record Clearing (w : Store) (x : ℕ) (v : Store) (i : ℕ) : Type 0 where
-  pub place : i ≤ record_length
-  pub same : v ≡ cleared w x i
-
-module _ (w : Store) (x : ℕ) where
-  pub clearing_none : Clearing w x w 0
-  unfolding cleared
-  clearing_none = record { place = omega arith; same = refl }
-
-  pub clearing_more : (v : Store) (i : ℕ) → Clearing w x v i → i < record_length
-      → Clearing w x (with_number v (channel_at x + i) 0) (i + 1)
-  unfolding cleared
-  clearing_more v i k h = record { place = omega arith; same = rw (add-one i, cleared, k.same) }
-
-  pub clearing_done : (v : Store) (i : ℕ) → Clearing w x v i → record_length ≤ i → v ≡ cleared w x record_length
-  clearing_done v i k h =
-      let e : i ≡ record_length = omega (arith, k.place) in
-      rw e at k.same
-
-  pub clearing_length : (v : Store) (i : ℕ) → Clearing w x v i → length v ≡ length w
-  clearing_length v i k = rw k.same (cleared_length w x i)
+-- as one part of the store that is filled
+pub cleared_filled : (w : Store) (x n : ℕ) → channel_at x + n ≤ length w
+    → cleared w x n ≡ paste w (channel_at x) (replicate n 0) n
+unfolding cleared
+cleared_filled w x zero h = paste_none w (channel_at x) []
+cleared_filled w x (suc i) h =
+    rw (cleared_filled w x i (omega arith)) (rw add-one at (fill_from_more w (channel_at x) i 0 (omega arith)))
