@@ -1,4 +1,2 @@
 pub mod Laws
-mod Steps
-mod Amounts
 mod Rows

@@ -1,12 +1,12 @@
 -- What is reserved on a link of a sound store, and its buffer, as the code reads them.
-use Prim.Native.Nat.{ℕ, ◌+◌, ◌≤◌, ◌<◌}
+use Prim.Native.Nat.{ℕ, ◌≤◌, ◌<◌}
 use mathlib.Core.Path.{◌≡◌}
-use mathlib.Core.Bool.{true, false}
+use mathlib.Core.Bool.{true}
 use mathlib.Core.List.{List}
 use native.Mathlib.Nat.{zero-add, le_trans}
-use borrow.Author.Tests.{ltb-true, le-leb, lt-leb}
+use borrow.Author.Tests.{ltb-true}
 use Rattle.kinds.specs.Ranges.{most_buffer}
-use Rattle.store.specs.Layout.{Store, number_at, links_of, buffer_of, rows_of}
+use Rattle.store.specs.Layout.{Store, number_at, links_of, rows_of}
 use Rattle.folds.specs.Folds.{every}
 use Rattle.store.specs.Route.{from, exists}
 use Rattle.store.specs.Amounts.{reserved_of}
@@ -14,7 +14,7 @@ use Rattle.store.specs.Sound.{sound_of, row_reserved_of}
 use Rattle.folds.proofs.Folds.{every_at, sum_part}
 use Rattle.store.proofs.Laws.Sound.{sound_is}
 use Rattle.store.proofs.Laws.Rows.{Row}
-use Rattle.open_rules.specs.Shares.{taken_of, fits_buffer}
+use Rattle.open_rules.specs.Shares.{taken_of}
 
 pub taken_most : (w : Store) → sound_of w ≡ true → (l : ℕ) → l < links_of w → taken_of w l ≤ most_buffer
 taken_most w e l h =
@@ -30,17 +30,9 @@ module _ {w : Store} {l k x j : ℕ} (r : Row w l k x j) {v : ℕ} (e : v ≡ re
   row_most =
       rw row_reserved (le_trans (sum_part (row_reserved_of w l) (rows_of w l) k r.below) (taken_most w r.sound l r.there))
 
--- A link of a lent route, and its buffer held against what would be reserved on it.
+-- a link of a lent route
 module _ (w : Store) (route : List ℕ) where
   pub link_exists : (n : ℕ) → every (exists w (from route 0)) n ≡ true → (j : ℕ) → j < n → number_at route j < links_of w
   link_exists n e j h =
       let k : from route 0 j < links_of w = ltb-true _ _ (every_at (exists w (from route 0)) n e j h) in
       rw (zero-add j) at k
-
-  module _ (reserved : List ℕ) (j : ℕ)
-      {t b : ℕ} (et : t ≡ taken_of w (number_at route j)) (eb : b ≡ buffer_of w (number_at route j)) where
-    pub exceeded : b < t + number_at reserved j → fits_buffer w (from route 0) (number_at reserved) j ≡ false
-    exceeded h = simp (zero-add j) (lt-leb _ _ (rw (et, eb) at h))
-
-    pub not_exceeded : t + number_at reserved j ≤ b → fits_buffer w (from route 0) (number_at reserved) j ≡ true
-    not_exceeded h = simp (zero-add j) (le-leb _ _ (rw (et, eb) at h))

@@ -2,14 +2,14 @@
 // number for each place of the route.
 #![tactic(auto)]
 
-ghost use Rattle.std.specs.Prelude.{◌≡◌, true, ◌≤◌, ◌<◌, length};
+ghost use Rattle.std.specs.Prelude.{◌≡◌, true, ◌+◌, ◌≤◌, ◌<◌, length, leb};
 ghost use Rattle.store.specs.Ranged.{most_reserved};
-ghost use Rattle.kinds.specs.Ranges.{most_hops, most_c, most_p, most_d, most_b};
-ghost use Rattle.store.specs.Layout.{number_at, links_of};
-ghost use Rattle.folds.specs.Folds.{every, first_not, sum_to};
+ghost use Rattle.kinds.specs.Ranges.{most_buffer, most_hops, most_c, most_p, most_d, most_b};
+ghost use Rattle.store.specs.Layout.{number_at, links_of, buffer_of, rows_of};
+ghost use Rattle.folds.specs.Folds.{every, failing, sum_to};
 ghost use Rattle.store.specs.Route.{from, exists};
 ghost use Rattle.store.specs.Amounts.{reserved_along};
-ghost use Rattle.store.specs.Sound.{sound_of};
+ghost use Rattle.store.specs.Sound.{sound_of, row_reserved_of};
 ghost use Rattle.open_rules.specs.Shares.{delays as delays_of, taken_of, fits_buffer, eight};
 ghost use Rattle.open_shares.specs.Ranges.{AllUpTo, Places};
 
@@ -17,22 +17,21 @@ use kinds::{Channel, Route};
 use store::link;
 
 // S, the sum of the responses along a route.
+#[tactic(auto, using(folds::proofs::Folds::sum_none, folds::proofs::Folds::sum_more))]
 pub fn total(responses: &[u64; Route::MOST_HOPS], way: Route) -> u64
     requires hops_le_most_hops { way.hops ≤ most_hops }
     requires all_up_to { AllUpTo responses.now way.hops most_p }
     ensures { result ≡ sum_to (number_at responses.now) way.hops }
 {
-    let n = way.hops;
-    let mut sum: u64 = 0;
-    let mut j: usize = 0;
-    while j < n {
+    let mut sum = 0;
+    for j in 0..way.hops {
         sum += responses[j];
-        j += 1;
     }
     sum
 }
 
 // The delay at each place of it: its share of D, or p if that is smaller. `sum` is S.
+#[tactic(auto, using(open_rules::proofs::Laws::Eight::eight_none, open_rules::proofs::Laws::Eight::eight_more))]
 pub fn delays(
     asked: Channel,
     way: Route,
@@ -47,25 +46,17 @@ pub fn delays(
     requires sum_le_d { sum ≤ asked.d }
     ensures { result ≡ eight (delays_of asked.p asked.d way.hops (number_at responses.now)) way.hops }
 {
-    let n = way.hops;
-    let p = asked.p;
-    let d = asked.d;
     let mut given = [0u64; Route::MOST_HOPS];
-    let mut j: usize = 0;
-    while j < n {
+    for j in 0..way.hops {
         let r = responses[j];
-        let share = r + (d - sum) * r / sum;
-        if share < p {
-            given[j] = share;
-        } else {
-            given[j] = p;
-        }
-        j += 1;
+        let share = r + (asked.d - sum) * r / sum;
+        given[j] = share.min(asked.p);
     }
     given
 }
 
 // The packets to be reserved at place `j` of the route.
+#[tactic(auto, using(store::proofs::Laws::Amounts::along_first, store::proofs::Laws::Amounts::along_later))]
 fn reserved_at(
     store: &[u64],
     asked: Channel,
@@ -88,6 +79,7 @@ fn reserved_at(
 }
 
 // The packets to be reserved at each place of the route.
+#[tactic(auto, using(open_rules::proofs::Laws::Eight::eight_none, open_rules::proofs::Laws::Eight::eight_more))]
 pub fn reserved(
     store: &[u64],
     asked: Channel,
@@ -101,51 +93,57 @@ pub fn reserved(
         (number_at delays.now)) (length route.now) }
 {
     let mut packets = [0u64; Route::MOST_HOPS];
-    let mut j: usize = 0;
-    while j < route.len() {
+    for j in 0..route.len() {
         packets[j] = reserved_at(store, asked, route, delays, j);
-        j += 1;
     }
     packets
 }
 
+// The packets reserved on link `l` for its row `k`.
+fn row_packets(store: &[u64], l: usize, k: usize) -> u64
+    requires store_value { sound_of store.now ≡ true }
+    requires l_bound { l < links_of store.now }
+    requires k_bound { k < rows_of store.now l }
+    ensures value { result ≡ row_reserved_of store.now l k }
+    ensures small { result ≤ most_buffer }
+{
+    let x = link::row_channel(store, l, k);
+    let j = link::row_place(store, l, k);
+    store_route::reserved(store, x, j)
+}
+
 // The packets reserved on link `l` already.
+#[tactic(auto, using(folds::proofs::Folds::sum_none, folds::proofs::Folds::sum_more))]
 fn taken(store: &[u64], l: usize) -> u64
     requires store_value { sound_of store.now ≡ true }
     requires l_bound { l < links_of store.now }
     ensures { result ≡ taken_of store.now l }
 {
-    let rows = link::rows(store, l);
-    let mut sum: u64 = 0;
-    let mut k: usize = 0;
-    while k < rows {
-        sum += store_route::reserved(
-            store,
-            link::row_channel(store, l, k),
-            link::row_place(store, l, k),
-        );
-        k += 1;
+    let mut sum = 0;
+    for k in 0..link::rows(store, l) {
+        sum += row_packets(store, l, k);
     }
     sum
 }
 
-// 10: the first place whose link's buffer would be exceeded, or the route's length.
-pub fn full_link(store: &[u64], route: &[u64], reserved: &[u64; Route::MOST_HOPS]) -> usize
+// Whether link `l`'s buffer holds `packets` more than are reserved on it.
+fn fits(store: &[u64], l: usize, packets: u64) -> bool
+    requires store_value { sound_of store.now ≡ true }
+    requires l_bound { l < links_of store.now }
+    requires packets_most { packets ≤ most_reserved }
+    ensures { result ≡ leb (taken_of store.now l + packets) (buffer_of store.now l) }
+{
+    taken(store, l) + packets <= link::buffer(store, l)
+}
+
+// 10: the first place whose link's buffer would be exceeded.
+pub fn full_link(store: &[u64], route: &[u64], reserved: &[u64; Route::MOST_HOPS]) -> Option<usize>
     requires store_value { sound_of store.now ≡ true }
     requires route_len_bound { length route.now ≤ most_hops }
     requires route_value { every (exists store.now (from route.now 0)) (length route.now) ≡ true }
     requires all_up_to { AllUpTo reserved.now (length route.now) most_reserved }
-    ensures { result ≡ first_not (fits_buffer store.now (from route.now 0)
+    ensures { result ≡ failing (fits_buffer store.now (from route.now 0)
         (number_at reserved.now)) (length route.now) }
 {
-    let n = route.len();
-    let mut j: usize = 0;
-    while j < n {
-        let l = route[j] as usize;
-        if taken(store, l) + reserved[j] > link::buffer(store, l) {
-            return j;
-        }
-        j += 1;
-    }
-    n
+    (0..route.len()).find(|&j| !fits(store, route[j] as usize, reserved[j]))
 }
