@@ -13,6 +13,7 @@ use kinds::{Channel, Route};
 use store::{channel, head};
 
 // The first `route.len()` links of channel `x`'s route, and the delay on each.
+#[tactic(auto, using(crate::proofs::Steps::places_none, crate::proofs::Steps::places_more))]
 fn put_places(store: &mut [u64], x: usize, route: &[u64], delays: &[u64; Route::MOST_HOPS])
     requires long { Long store.old }
     requires x_lt_most_channels { x < most_channels }
@@ -20,15 +21,14 @@ fn put_places(store: &mut [u64], x: usize, route: &[u64], delays: &[u64; Route::
     ensures { store.new ≡ places_written store.old x (from route.now 0)
         (number_at delays.now) (length route.now) }
 {
-    let mut j: usize = 0;
-    while j < route.len() {
-        channel::put_route(store, x, j, route[j] as usize);
+    for (j, &l) in route.iter().enumerate() {
+        channel::put_route(store, x, j, l as usize);
         channel::put_delay(store, x, j, delays[j]);
-        j += 1;
     }
 }
 
 // The record of channel `x`: what was asked for, and the delay on each link.
+#[tactic(auto, unfolding(open_rules::specs::Join::channel_written))]
 fn put_channel(
     store: &mut [u64],
     x: usize,
@@ -52,14 +52,13 @@ fn put_channel(
 }
 
 // The rows of channel `x` join the order of each of the `n` links of its route.
+#[tactic(auto, using(crate::proofs::Steps::rows_none, crate::proofs::Steps::rows_more))]
 fn join_rows(store: &mut [u64], x: usize, n: usize)
     requires { Ready store.old x (route_of store.old x) n }
     ensures { store.new ≡ rows_joined store.old x n }
 {
-    let mut j: usize = 0;
-    while j < n {
+    for j in 0..n {
         open_insert::join_row(store, x, j);
-        j += 1;
     }
 }
 
