@@ -3,78 +3,77 @@
 
 ghost use Rattle.std.specs.Prelude.{◌≡◌, length};
 ghost use Rattle.store.specs.Layout.{Long, channels_of};
-ghost use Rattle.folds.specs.Folds.{first_not};
+ghost use Rattle.folds.specs.Folds.{failing};
 ghost use Rattle.store.specs.Route.{from, Known};
 ghost use Rattle.checks.specs.Checks.{first_failed};
-ghost use Rattle.open_checks.specs.declared.Checked.TheVariants.{Passed, Refused};
+ghost use Rattle.std.specs.declared.result.Result.TheVariants.{Ok, Err};
 ghost use Rattle.open_rules.specs.Refusal.{takes_row, early_checks};
 
-use kinds::{Channel, CheckedChannel, CheckedRoute, Link, Network, Route, Slot};
+use kinds::{Channel, Link, Network, Refusal, Route, Slot};
 use store::{head, link};
 
-// What the checks leave of a request: the number that its channel will have, what it asks for, and how many links its route has;
-// or the refusal's number and place.
+// What the checks leave of a request: the number that its channel will have, what it asks for, and how many links its route has.
 #[derive(Clone, Copy)]
-pub enum Checked {
-    Refused(u64, u64),
-    Passed(usize, Channel, Route),
+pub struct Passed {
+    pub channel: usize,
+    pub asked: Channel,
+    pub way: Route,
 }
 
-// 7: the first place of the route whose link has no room for a row, or the route's length.
-fn crowded_link(store: &[u64], route: &[u64]) -> usize
+// 7: the first place of the route whose link has no room for a row.
+fn crowded_link(store: &[u64], route: &[u64]) -> Option<usize>
     requires long { Long store.now }
     requires known { Known (from route.now 0) (length route.now) }
-    ensures { result ≡ first_not (takes_row store.now (from route.now 0)) (length route.now) }
+    ensures { result ≡ failing (takes_row store.now (from route.now 0)) (length route.now) }
 {
-    let n = route.len();
-    let mut j: usize = 0;
-    while j < n {
-        if link::rows(store, route[j] as usize) >= Link::MOST_ROWS {
-            return j;
-        }
-        j += 1;
-    }
-    n
+    (0..route.len()).find(|&j| link::rows(store, route[j] as usize) >= Link::MOST_ROWS)
 }
 
 // Checks 17, 14 and 1 to 7, in this order.
-pub fn early(store: &[u64], c: u64, p: u64, d: u64, b: u64, route: &[u64]) -> Checked
-    ensures { result ≡ first_failed Refused
+#[tactic(auto, using(crate::proofs::Sound::sound_long, crate::proofs::Sound::sound_few), unfolding(checks::specs::Checks::first_failed, kinds::specs::Checks::new_channel, kinds::specs::Checks::new_route))]
+pub fn early(
+    store: &[u64],
+    c: u64,
+    p: u64,
+    d: u64,
+    b: u64,
+    route: &[u64],
+) -> Result<Passed, Refusal>
+    ensures { result ≡ first_failed Err
         (early_checks store.now (record { c = c; p = p; d = d; b = b; route = route.now }))
-        (Passed (channels_of store.now) (record { c = c; p = p; d = d; b = b })
-        (record { hops = length route.now })) }
+        (Ok (record {
+          channel = channels_of store.now;
+          asked = record { c = c; p = p; d = d; b = b };
+          way = record { hops = length route.now };
+        })) }
 {
     if !sound::is_sound(store) {
-        return Checked::Refused(17, 0);
+        return Err(Refusal::NotSound);
     }
-    let ended = head::clock(store) >= Slot::END;
-    if ended {
-        return Checked::Refused(14, 0);
+    if head::clock(store) >= Slot::END {
+        return Err(Refusal::EndSlot);
     }
-    let CheckedChannel::Good(asked) = Channel::new(c, p, d, b) else {
-        return Checked::Refused(1, 0);
-    };
-    let CheckedRoute::Good(way) = Route::new(route.len()) else {
-        return Checked::Refused(2, 0);
-    };
-    let unknown = store_route::unknown_link(store, route, 0, route.len());
-    if unknown < route.len() {
-        return Checked::Refused(3, unknown as u64);
+    let asked = Channel::new(c, p, d, b)?;
+    let way = Route::new(route.len())?;
+    if let Some(j) = store_route::unknown_link(store, route, 0, route.len()) {
+        return Err(Refusal::NoLink(j as u64));
     }
-    let repeated = store_route::repeated_link(route, 0, route.len());
-    if repeated < route.len() {
-        return Checked::Refused(4, repeated as u64);
+    if let Some(j) = store_route::repeated_link(route, 0, route.len()) {
+        return Err(Refusal::LinkTwice(j as u64));
     }
-    let parted = store_route::parted_link(store, route, 0, route.len());
-    if parted < route.len() {
-        return Checked::Refused(5, parted as u64);
+    if let Some(j) = store_route::parted_link(store, route, 0, route.len()) {
+        return Err(Refusal::LinksApart(j as u64));
     }
-    if head::channels(store) >= Network::MOST_CHANNELS {
-        return Checked::Refused(6, 0);
+    let channel = head::channels(store);
+    if channel >= Network::MOST_CHANNELS {
+        return Err(Refusal::ChannelsFull);
     }
-    let crowded = crowded_link(store, route);
-    if crowded < route.len() {
-        return Checked::Refused(7, crowded as u64);
+    if let Some(j) = crowded_link(store, route) {
+        return Err(Refusal::RowsFull(j as u64));
     }
-    Checked::Passed(head::channels(store), asked, way)
+    Ok(Passed {
+        channel,
+        asked,
+        way,
+    })
 }
