@@ -1,36 +1,32 @@
 -- What a slot says of the store and the output that it leaves, for the crates above.
-use Prim.Native.Nat.{ℕ, ◌*◌, ◌≤◌, ◌<◌}
-use mathlib.Core.Path.{◌≡◌, refl, sym}
-use mathlib.Core.Bool.{true}
-use mathlib.Core.List.{List}
+use Rattle.std.proofs.Common.{ℕ, ◌*◌, ◌≤◌, ◌<◌, ◌≡◌, refl, sym, true, List, length, take, arith}
 use mathlib.Core.Logic.{◌⊎◌, inl, inr}
-use native.Mathlib.Omega.{arith}
-use lib.ListN.{length, take}
 use lib.Seq.{take_at}
 use borrow.Author.Tests.{leb-true, ltb-true}
+use Rattle.std.specs.declared.option.Option.{Option}
+use Rattle.std.specs.declared.result.Result.{Result}
+use Rattle.std.specs.declared.result.Result.TheVariants.{Ok, Err}
 use Rattle.kinds.specs.Ranges.{end_slot}
+use Rattle.kinds.specs.declared.Refusal.{Refusal}
+use Rattle.kinds.specs.declared.Refusal.TheVariants.{EndSlot, OutShort, NotSound}
 use Rattle.store.specs.Layout.{Store, links_of, clock_of}
 use Rattle.store.specs.Sound.{sound_of}
-use Rattle.checks.proofs.Laws.{AllHold, accepted_all, refused_one}
-use Rattle.slot_rules.specs.declared.Turn.{Turn}
-use Rattle.slot_rules.specs.declared.Turn.TheVariants.{Ran, Refused}
-use Rattle.slot_rules.specs.Slot.{Send, numbers, slot_sends, moved, slot_checks, slot_turn, slot_number, slot_place, slot_sent}
-use Rattle.slot_rules.specs.Slot.{slot_store, written, slot_out}
+use Rattle.checks.proofs.Laws.{AllHold, accepted_all, all_passed, refused_one, refused_as}
+use Rattle.slot_rules.specs.Slot.{Send, numbers, slot_sends, slot_checks, slot_turn, slot_sent, slot_store, slot_out}
 use Rattle.slot_rules.proofs.Laws.Sends.{numbers_length, sends_most, written_none}
 use Rattle.slot_pick.specs.Picks.{picks_to}
-use Rattle.slot_checks.specs.Left.{picks_left}
-use Rattle.slot_checks.proofs.Checks.{never_ran, picks_made}
+use Rattle.slot_checks.specs.Turn.{turn_picks}
 
--- "slot 17, 14, 15"; "where none is named it is 0"
-abbrev pub Refusal : (number place : ℕ) → Type 0
-Refusal number place = ((number ≡ 17) ⊎ ((number ≡ 14) ⊎ (number ≡ 15))) × (place ≡ 0)
+-- "slot 17, 14, 15"
+abbrev pub Refuses : Refusal → Type 0
+Refuses refusal = (refusal ≡ NotSound) ⊎ ((refusal ≡ EndSlot) ⊎ (refusal ≡ OutShort))
 
 module _ (w : Store) (size : ℕ) where
   -- a slot that ran
-  module _ (e : slot_turn w size ≡ Ran) where
+  module _ {ran : Unit {0}} (e : slot_turn w size ≡ Ok ran) where
     holds : AllHold (slot_checks w size)
     unfolding slot_turn
-    holds = accepted_all Refused (slot_checks w size) Ran Ran never_ran e
+    holds = accepted_all Err (slot_checks w size) (Ok tt) (Ok ran) (λ n f. absurd cc) e
 
     -- it stood on these
     pub ran_sound : sound_of w ≡ true
@@ -45,51 +41,48 @@ module _ (w : Store) (size : ℕ) where
     pub slot_sound : sound_of (slot_store w size) ≡ true
     slot_sound = rw e holds.1.1.1.0
 
-    -- and its picks are what the links pick
-    pub ran_picks : (held : List ℕ) → picks_left w size held ≡ picks_to w (links_of w)
-    ran_picks held = picks_made w size held (holds.0, (holds.1.0, (holds.1.1.0, tt)))
-
     sends_fit : 5 * length (slot_sends w) ≤ size
     sends_fit = omega (arith, ran_room, sends_most w (links_of w))
 
   -- a refused one
-  module _ (number place : ℕ) (e : slot_turn w size ≡ Refused number place) where
+  module _ {refusal : Refusal} (e : slot_turn w size ≡ Err refusal) where
     pub refused_store : slot_store w size ≡ w
     refused_store = rw e
 
-    pub refused_number : Refusal number place
+    pub refused_number : Refuses refusal
     unfolding slot_turn
     refused_number =
-        let at_17 : Refusal 17 0 = (inl refl, refl) in
-        let at_14 : Refusal 14 0 = (inr (inl refl), refl) in
-        let at_15 : Refusal 15 0 = (inr (inr refl), refl) in
-        refused_one Refused Refusal (λ m n i at f. ((cc), (cc))) (slot_checks w size) Ran number place
-        (at_17, (at_14, (at_15, (at_17, tt)))) (never_ran number place) e
+        refused_one {A = Result (Unit {0}) Refusal} Err Refuses (λ m n f. cc) (slot_checks w size) (Ok tt) refusal
+        (inl refl, (inr (inl refl), (inr (inr refl), (inl refl, tt)))) (λ f. absurd cc) e
+
+  -- the answer of the look at the slot: it is refused as the slot is, or it has what the links pick, and the slot runs
+  pub turn_refused : {refusal : Refusal} → Err refusal ≡ turn_picks w size → slot_turn w size ≡ Err refusal
+  unfolding slot_turn
+  turn_refused {refusal} e =
+      refused_as Err Err (λ m n f. cc) (slot_checks w size) (Ok (picks_to w (links_of w))) (Ok tt) refusal (λ f. absurd cc) (sym e)
+
+  module _ {picks : List (Option ℕ)} (e : Ok picks ≡ turn_picks w size) where
+    passed : AllHold (slot_checks w size)
+    passed = accepted_all Err (slot_checks w size) (Ok (picks_to w (links_of w))) (Ok picks) (λ n f. absurd cc) (sym e)
+
+    pub turn_ran : slot_turn w size ≡ Ok tt
+    unfolding slot_turn
+    turn_ran = all_passed Err (slot_checks w size) (Ok tt) passed
+
+    pub turn_has : picks ≡ picks_to w (links_of w)
+    turn_has = let f = all_passed Err (slot_checks w size) (Ok (picks_to w (links_of w))) passed in cc
 
   -- either way the sends have room
   pub sent_fits : 5 * length (slot_sent w size) ≤ size
   sent_fits = go (slot_turn w size) refl
     where
-      go : (t : Turn) → slot_turn w size ≡ t → 5 * length (slot_sent w size) ≤ size
-      go Ran e = rw e (sends_fit e)
-      go (Refused number place) e = rw e (omega arith)
+      go : (t : Result (Unit {0}) Refusal) → slot_turn w size ≡ t → 5 * length (slot_sent w size) ≤ size
+      go (Ok ran) e = rw e (sends_fit e)
+      go (Err refusal) e = rw e (omega arith)
 
 module _ (w : Store) (out : List ℕ) where
-  pub refused_out : (number place : ℕ) → slot_turn w (length out) ≡ Refused number place → slot_out w out ≡ out
-  refused_out number place e = rw e (written_none out)
-
-  -- What a slot gives back and leaves: the number of its sends, the store, the output, its number and place.
-  abbrev pub Ends : (n : ℕ) → (later : Store) → (full : List ℕ) → (number place : ℕ) → Type 0
-  Ends n later full number place =
-      (n ≡ length (slot_sent w (length out))) × ((later ≡ slot_store w (length out)) × ((full ≡ slot_out w out)
-      × ((number ≡ slot_number w (length out)) × (place ≡ slot_place w (length out)))))
-
-  pub ends_refused : (number place : ℕ) → slot_turn w (length out) ≡ Refused number place → Ends 0 w out number place
-  ends_refused number place e = rw e (refl, (refl, (sym (written_none out), (refl, refl))))
-
-  pub ends_ran : slot_turn w (length out) ≡ Ran → (n : ℕ) (later : Store) (full : List ℕ) → n ≡ length (slot_sends w)
-      → later ≡ moved w → full ≡ written (slot_sends w) out → Ends n later full 0 0
-  ends_ran e n later full a b c = rw e (a, (b, (c, (refl, refl))))
+  pub refused_out : {refusal : Refusal} → slot_turn w (length out) ≡ Err refusal → slot_out w out ≡ out
+  refused_out e = rw e (written_none out)
 
   -- the front part of the output is the sends
   module _ (n : ℕ) (full : List ℕ) (a : n ≡ length (slot_sent w (length out))) (b : full ≡ slot_out w out) where

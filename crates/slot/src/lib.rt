@@ -5,9 +5,6 @@
 ghost use Rattle.std.specs.Prelude.{◌≡◌, length};
 ghost use Rattle.slot_rules.specs.Slot.{numbers, slot_number, slot_place, slot_sent, slot_store, slot_out};
 
-use kinds::Network;
-use slot_rules::Turn;
-
 // Runs a slot, or refuses and leaves the store and the output alone: how many packets were sent. The sends stand at the front of
 // `out`, five numbers each; `number` and `place` are those of the refusal, 0 and 0 if the slot ran.
 pub fn run(store: &mut [u64], out: &mut [u64], number: &mut u64, place: &mut u64) -> usize
@@ -17,18 +14,20 @@ pub fn run(store: &mut [u64], out: &mut [u64], number: &mut u64, place: &mut u64
     ensures number_after { number.new ≡ slot_number store.old (length out.old) }
     ensures place_after { place.new ≡ slot_place store.old (length out.old) }
 {
-    let mut picks = [0u64; Network::MOST_LINKS];
-    let turn = slot_checks::turn(store, out.len(), &mut picks);
-    if let Turn::Refused(n, at) = turn {
-        *number = n;
-        *place = at;
-        return 0;
+    match slot_checks::turn(store, out.len()) {
+        Ok(picks) => {
+            *number = 0;
+            *place = 0;
+            let sends = slot_move::report(store, out, &picks);
+            slot_move::move_on(store, &picks);
+            sends
+        }
+        Err(refusal) => {
+            *number = refusal.number();
+            *place = refusal.place();
+            0
+        }
     }
-    *number = 0;
-    *place = 0;
-    let sends = slot_move::report(store, out, &picks);
-    slot_move::move_on(store, &picks);
-    sends
 }
 
 // The public call: the same, and the sends come back as the front part of `out`. What the call above says of the rest of `out`

@@ -1,0 +1,44 @@
+use Rattle.std.proofs.Common.{sym}
+use Rattle.slot_rules.proofs.Laws.Sends.{written_none}
+use Rattle.slot.proofs.Laws.{ran_sound, ran_before_end, ran_room, turn_ran, turn_has, turn_refused}
+use Rattle.slot.proofs.run.Goals as goal
+
+pub report-sends-requires : goal.report-sends-requires
+report-sends-requires c =
+    let t = turn_ran _ _ c.in-Ok.ensures in
+    record {
+      store_value = ran_sound _ _ t;
+      picks_value = turn_has _ _ c.in-Ok.ensures;
+      store_in_bounds = ran_room _ _ t;
+    }
+
+pub move_on-requires : goal.move_on-requires
+move_on-requires c =
+    let t = turn_ran _ _ c.in-Ok.ensures in
+    record {
+      store_value = ran_sound _ _ t;
+      picks_value = turn_has _ _ c.in-Ok.ensures;
+      store_bound = ran_before_end _ _ t;
+    }
+
+pub returns-in-Ok : goal.returns-in-Ok
+returns-in-Ok c =
+    let t = turn_ran _ _ c.in-Ok.ensures in
+    record {
+      value = rw (t, c.report-sends.ensures.value);
+      store_after = rw (t, c.move_on.ensures);
+      out_after = rw (t, c.report-sends.ensures.out_after);
+      number_after = rw t;
+      place_after = rw t;
+    }
+
+pub returns-in-Err : goal.returns-in-Err
+returns-in-Err c =
+    let t = turn_refused _ _ c.in-Err.ensures in
+    record {
+      value = rw t;
+      store_after = rw t;
+      out_after = sym (rw t (written_none _));
+      number_after = rw (t, c.number.ensures);
+      place_after = rw (t, c.place.ensures);
+    }
