@@ -65,6 +65,7 @@ fn read_numbers(line: &[u8], numbers: &mut [u64]) -> Option<usize>
 {
     let mut count: usize = 0;
     let mut end = text_decimal::word_end(line);
+    // no `for` over the places of `numbers`: the line ends before they do, and that would have to be said
     while end < line.len() {
         let number = text_decimal::read(line, end + 1)?;
         numbers[count] = number.value;
