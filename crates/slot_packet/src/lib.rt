@@ -2,12 +2,12 @@
 #![tactic(auto)]
 
 ghost use Rattle.std.specs.Prelude.{◌≡◌, true, ◌%◌, ◌<◌};
-ghost use Rattle.kinds.specs.Ranges.{most_channels, most_hops};
-ghost use Rattle.store.specs.Layout.{Long, ring, hops_of, IsChannel};
+ghost use Rattle.kinds.specs.Ranges.{most_hops};
+ghost use Rattle.store.specs.Layout.{ring, hops_of, IsChannel};
 ghost use Rattle.store.specs.Sound.{sound_of};
 ghost use Rattle.slot_rules.specs.Head.{message_of, logical_of, is_held};
 
-use store::channel;
+use store::channel::{self, Record};
 
 // A message that was looked for: its number, counted from 1, and its place in the ring.
 #[derive(Drop)]
@@ -17,22 +17,20 @@ struct Found {
 }
 
 // The message that goes next at place `j` of a channel's route.
-fn next(store: &[u64], x: usize, j: usize) -> Found
-    requires long { Long store.now }
-    requires x_lt_most_channels { x < most_channels }
+fn next(channel: &Record, j: usize) -> Found
     requires j_lt_most_hops { j < most_hops }
     ensures { result
-        ≡ record { number = message_of store.now x j; place = message_of store.now x j % ring } }
+        ≡ record { number = message_of channel.now.store channel.now.x j; place = message_of channel.now.store channel.now.x j % ring } }
 {
-    let sent = channel::sent(store, x, j);
-    let mut n = channel::messages(store, x);
+    let sent = channel.sent(j);
+    let mut n = channel.messages();
     let mut at = channel::ring_place(n);
     for _ in 0..store::UNDELIVERED {
         if n == 0 {
             break;
         }
         let before = channel::place_before(at);
-        if channel::end_in(store, x, before) <= sent {
+        if channel.end_in(before) <= sent {
             break;
         }
         n -= 1;
@@ -45,24 +43,22 @@ fn next(store: &[u64], x: usize, j: usize) -> Found
 }
 
 // Its number, counted from 1.
-pub fn message(store: &[u64], x: usize, j: usize) -> u64
-    requires long { Long store.now }
-    requires x_lt_most_channels { x < most_channels }
+pub fn message(channel: &Record, j: usize) -> u64
     requires j_lt_most_hops { j < most_hops }
-    ensures { result ≡ message_of store.now x j }
+    ensures { result ≡ message_of channel.now.store channel.now.x j }
 {
-    next(store, x, j).number
+    next(channel, j).number
 }
 
 // The logical time of the packet that goes next at place `j` of a channel's route, where one is held.
 #[tactic(auto, using(slot_rules::proofs::Laws::Ready::ready, crate::proofs::Laws::delays_small))]
-pub fn logical(store: &[u64], x: usize, j: usize) -> u64
-    requires store_value { sound_of store.now ≡ true }
-    requires channel { IsChannel store.now x }
-    requires j_bound { j < hops_of store.now x }
-    requires j_value { is_held store.now x j ≡ true }
-    ensures { result ≡ logical_of store.now x j }
+pub fn logical(channel: &Record, j: usize) -> u64
+    requires sound { sound_of channel.now.store ≡ true }
+    requires known { IsChannel channel.now.store channel.now.x }
+    requires on_route { j < hops_of channel.now.store channel.now.x }
+    requires held { is_held channel.now.store channel.now.x j ≡ true }
+    ensures { result ≡ logical_of channel.now.store channel.now.x j }
 {
-    let found = next(store, x, j);
-    channel::time_in(store, x, found.place) + store_route::offset(store, x, j)
+    let found = next(channel, j);
+    channel.time_in(found.place) + store_route::offset(channel, j)
 }
