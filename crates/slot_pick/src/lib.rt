@@ -1,15 +1,14 @@
 // Which packet each link picks in a slot: document 01, "A slot". Nothing is written.
 #![tactic(auto)]
 
-ghost use Rattle.std.specs.Prelude.{◌≡◌, true, ◌<◌};
+ghost use Rattle.std.specs.Prelude.{◌≡◌, ◌<◌};
 ghost use Rattle.store.specs.Layout.{links_of};
-ghost use Rattle.store.specs.Sound.{sound_of};
 ghost use Rattle.slot_rules.specs.Pick.{pick_from, pick_of, row_of};
 ghost use Rattle.slot_pick.specs.Picks.{picks_to};
 ghost use Rattle.slot_pick.specs.Rows.{goes_first, position_of, Timed};
 
 use kinds::Network;
-use store::{channel, head, link};
+use store::lent::Sound;
 
 // A row that may be picked, with its key (a deadline or a logical time) and its channel.
 #[derive(Clone, Copy)]
@@ -34,9 +33,8 @@ impl Candidate {
 // The current packet with the earliest deadline, `due`; with none, the early one with the least logical time, `soon`, if that is
 // within the horizon.
 #[tactic(auto, using(slot_rules::proofs::Laws::Ready::ready))]
-fn chosen(store: &[u64], l: usize, due: Option<Candidate>, soon: Option<Candidate>) -> Option<usize>
-    requires store_value { sound_of store.now ≡ true }
-    requires l_bound { l < links_of store.now }
+fn chosen(store: &Sound, l: usize, due: Option<Candidate>, soon: Option<Candidate>) -> Option<usize>
+    requires on_link { l < links_of store.now }
     requires timed { Timed store.now l soon }
     ensures { result ≡ row_of (pick_from store.now l (position_of due) (position_of soon)) }
 {
@@ -44,28 +42,28 @@ fn chosen(store: &[u64], l: usize, due: Option<Candidate>, soon: Option<Candidat
         return Some(first.row);
     }
     let first = soon?;
-    let last = head::clock(store) + link::horizon(store, l);
+    let last = store.clock() + store.link(l).horizon();
     let near = first.key <= last;
     if near { Some(first.row) } else { None }
 }
 
 // The row of link `l` whose packet is picked, if any is.
 #[tactic(auto, using(slot_rules::proofs::Laws::Ready::ready))]
-pub fn pick(store: &[u64], l: usize) -> Option<usize>
-    requires store_value { sound_of store.now ≡ true }
-    requires l_bound { l < links_of store.now }
+pub fn pick(store: &Sound, l: usize) -> Option<usize>
+    requires { l < links_of store.now }
     ensures { result ≡ row_of (pick_of store.now l) }
 {
-    let now = head::clock(store);
-    let rows = link::rows(store, l);
+    let now = store.clock();
+    let link = store.link(l);
     // so far, the current packet with the earliest deadline, and the early one with the least logical time
     let mut due: Option<Candidate> = None;
     let mut soon: Option<Candidate> = None;
-    for k in 0..rows {
-        let x = link::row_channel(store, l, k);
-        let j = link::row_place(store, l, k);
-        if channel::sent(store, x, j) < store_route::entered(store, x, j) {
-            let logical = slot_packet::logical(store, x, j);
+    for k in 0..link.rows() {
+        let x = link.row_channel(k);
+        let j = link.row_place(k);
+        let channel = store.channel(x);
+        if channel.sent(j) < store_route::entered(&channel, j) {
+            let logical = slot_packet::logical(&channel, j);
             if logical > now {
                 let next = Candidate {
                     row: k,
@@ -76,7 +74,7 @@ pub fn pick(store: &[u64], l: usize) -> Option<usize>
                     soon = Some(next);
                 }
             } else {
-                let deadline = logical + channel::delay(store, x, j);
+                let deadline = logical + channel.delay(j);
                 let next = Candidate {
                     row: k,
                     key: deadline,
@@ -93,12 +91,11 @@ pub fn pick(store: &[u64], l: usize) -> Option<usize>
 
 // What each link picks; none where there is no link.
 #[tactic(auto, using(slot_rules::proofs::Laws::Ready::ready, crate::proofs::Laws::picks_none, crate::proofs::Laws::picks_more))]
-pub fn picks(store: &[u64]) -> [Option<usize>; Network::MOST_LINKS]
-    requires { sound_of store.now ≡ true }
+pub fn picks(store: &Sound) -> [Option<usize>; Network::MOST_LINKS]
     ensures { result ≡ picks_to store.now (links_of store.now) }
 {
     let mut picked = [None; Network::MOST_LINKS];
-    for l in 0..head::links(store) {
+    for l in 0..store.links() {
         picked[l] = pick(store, l);
     }
     picked

@@ -15,34 +15,34 @@ pub loop-k-preserved : goal.loop-k-preserved
 loop-k-preserved c =
     let a = c.loop-k.invariant in
     let r : Row c.args.store.now c.args.l c.loop-k.k c.row_channel-x.result c.row_place-j.result = record {
-      sound = c.requires.store_value;
-      there = c.requires.l_bound;
-      below = omega arith;
-      its_channel = c.row_channel-x.ensures;
-      its_place = c.row_place-j.ensures;
+      sound = c.link-link.ensures.sound;
+      there = c.requires;
+      below = grind arith;
+      its_channel = rw c.link-link.ensures.value at c.row_channel-x.ensures;
+      its_place = rw c.link-link.ensures.value at c.row_place-j.ensures;
     } in
     let held : (t : ℕ) → c.sent.result < c.entered.result → t ≡ logical_of c.args.store.now c.row_channel-x.result c.row_place-j.result
     → Held c.args.store.now c.args.l c.loop-k.k c.row_channel-x.result c.row_place-j.result c.clock-now.result t =
-    λ t h e. record { row = r; held = place_holds r c.sent.ensures c.entered.ensures h; now_is = c.clock-now.ensures; time_is = e } in
+    λ t h e. record { row = r; held = place_holds r (rw c.channel-channel.ensures.value at c.sent.ensures) (rw c.channel-channel.ensures.value at c.entered.ensures) h; now_is = c.clock-now.ensures.value; time_is = e } in
     elim c.if-sent-entered.branch [
       | then-sent-entered+then-logical-now+then-goes_before w ↦
           rw (w.due-is, w.soon-is)
-          (choosing_soon a (held _ w.if-sent-entered.true w.logical-logical.ensures) w.if-logical-now.true w.goes_before.ensures w.if-goes_before.true)
+          (choosing_soon a (held _ w.if-sent-entered.true (rw c.channel-channel.ensures.value at w.logical-logical.ensures)) w.if-logical-now.true w.goes_before.ensures w.if-goes_before.true)
       | then-sent-entered+then-logical-now+else-goes_before w ↦
           rw (w.due-is, w.soon-is)
-          (choosing_later a (held _ w.if-sent-entered.true w.logical-logical.ensures) w.if-logical-now.true w.goes_before.ensures w.if-goes_before.false)
+          (choosing_later a (held _ w.if-sent-entered.true (rw c.channel-channel.ensures.value at w.logical-logical.ensures)) w.if-logical-now.true w.goes_before.ensures w.if-goes_before.false)
       | then-sent-entered+else-logical-now+then-goes_before-2 w ↦
           rw (w.due-is, w.soon-is)
-          (choosing_due a (held _ w.if-sent-entered.true w.logical-logical.ensures) w.if-logical-now.false w.delay.ensures
+          (choosing_due a (held _ w.if-sent-entered.true (rw c.channel-channel.ensures.value at w.logical-logical.ensures)) w.if-logical-now.false (rw c.channel-channel.ensures.value at w.delay.ensures)
           w.goes_before-else-logical-now.ensures w.if-goes_before-2.true)
       | then-sent-entered+else-logical-now+else-goes_before-2 w ↦
           rw (w.due-is, w.soon-is)
-          (choosing_after a (held _ w.if-sent-entered.true w.logical-logical.ensures) w.if-logical-now.false w.delay.ensures
+          (choosing_after a (held _ w.if-sent-entered.true (rw c.channel-channel.ensures.value at w.logical-logical.ensures)) w.if-logical-now.false (rw c.channel-channel.ensures.value at w.delay.ensures)
           w.goes_before-else-logical-now.ensures w.if-goes_before-2.false)
       | else-sent-entered w ↦
-          rw (w.due-is, w.soon-is) (choosing_pass a (row_empty r c.sent.ensures c.entered.ensures w.if-sent-entered.false))
+          rw (w.due-is, w.soon-is) (choosing_pass a (row_empty r (rw c.channel-channel.ensures.value at c.sent.ensures) (rw c.channel-channel.ensures.value at c.entered.ensures) w.if-sent-entered.false))
     ]
 
 pub returns : goal.returns
 returns c =
-    rw (choosing_done c.loop-k.invariant (omega arith)) c.chosen.ensures
+    rw (choosing_done c.loop-k.invariant (grind arith)) c.chosen.ensures
