@@ -8,13 +8,14 @@ use lib.ListN.{take, drop}
 use Rattle.store.specs.Layout.{Store, number_at, channels_of, with_channels}
 use Rattle.store.specs.Sound.{sound_of}
 use Rattle.checks.proofs.Laws.{AllHold, failed_append, all_passed, accepted_all, hold_append, clear_other, clear_passed}
-use Rattle.open_rules.specs.declared.Outcome.TheVariants.{Accepted, Refused}
+use Rattle.kinds.specs.declared.Refusal.TheVariants.{NotSound}
+use Rattle.std.specs.declared.result.Result.TheVariants.{Ok, Err}
 use Rattle.open_rules.specs.Request.{Request, hops}
 use Rattle.open_rules.specs.Shares.{eight}
 use Rattle.open_rules.specs.Join.{channel_written, rows_joined}
 use Rattle.open_rules.specs.Refusal.{early_checks, late_checks, delays_of, opened}
 use Rattle.open_rules.specs.Open.{open_outcome, open_answer, open_store}
-use Rattle.open_rules.proofs.Laws.Outcome.{refused_accepted, refused_number}
+use Rattle.open_rules.proofs.Laws.Outcome.{refused_accepted, refused_same}
 use Rattle.open_rules.proofs.Laws.Facts.{Early, Late, After}
 use Rattle.open_rules.proofs.Laws.Passed.{early_is, late_is}
 use Rattle.open_rules.proofs.Laws.Delays.{delay_least, delay_within}
@@ -44,25 +45,25 @@ module _ (w : Store) (q : Request) where
     all_late = (late.0, (late.1.0, (late.1.1.0, (sound_after, tt))))
 
   -- "On a store reached from set-up the other calls never give 17": an open gives it only on a store that is not sound.
-  pub never_17 : sound_of w ≡ true → (place : ℕ) → open_outcome w q ≡ Refused 17 place → ⊥
+  pub never_17 : sound_of w ≡ true → open_outcome w q ≡ Err NotSound → ⊥
   unfolding open_outcome
-  never_17 s place e =
+  never_17 s e =
       let x = channels_of w in
-      let first = clear_passed Refused refused_number 17 place (early_checks w q) _
-      ((λ _. s), clear_other 17 (drop 1 (early_checks w q)) refl)
-      (sym (failed_append Refused (early_checks w q) (late_checks w q) (Accepted x)) ∙ e) in
-      let second = clear_passed Refused refused_number 17 place (take 3 (late_checks w q)) _
-      (clear_other 17 (take 3 (late_checks w q)) refl)
-      (sym (failed_append Refused (take 3 (late_checks w q)) (drop 3 (late_checks w q)) (Accepted x)) ∙ first.1) in
-      let passed = all_passed Refused (drop 3 (late_checks w q)) (Accepted x) (all_late first.0 second.0).1.1.1 in
+      let first = clear_passed Err refused_same NotSound (early_checks w q) _
+      ((λ _. s), clear_other NotSound (drop 1 (early_checks w q)) refl)
+      (sym (failed_append Err (early_checks w q) (late_checks w q) (Ok x)) ∙ e) in
+      let second = clear_passed Err refused_same NotSound (take 3 (late_checks w q)) _
+      (clear_other NotSound (take 3 (late_checks w q)) refl)
+      (sym (failed_append Err (take 3 (late_checks w q)) (drop 3 (late_checks w q)) (Ok x)) ∙ first.1) in
+      let passed = all_passed Err (drop 3 (late_checks w q)) (Ok x) (all_late first.0 second.0).1.1.1 in
       let z : ◌≡◌ {A = ℕ} 0 1 = cc (passed, second.1) in
       omega arith
 
   -- What an accepted open stands on, and the store that it leaves.
-  module _ (x : ℕ) (a : open_outcome w q ≡ Accepted x) where
+  module _ (x : ℕ) (a : open_outcome w q ≡ Ok x) where
     holds : AllHold (early_checks w q) × AllHold (late_checks w q)
     unfolding open_outcome
-    holds = hold_append (early_checks w q) (late_checks w q) (accepted_all Refused _ _ _ (refused_accepted x) a)
+    holds = hold_append (early_checks w q) (late_checks w q) (accepted_all Err _ _ _ (refused_accepted x) a)
 
     -- "numbered from 0 as opened"
     pub accepted_number : x ≡ channels_of w

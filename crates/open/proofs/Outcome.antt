@@ -1,19 +1,29 @@
 -- From the checks to the answer and the store after it.
 use Prim.Native.Nat.{ℕ}
 use mathlib.Core.Path.{◌≡◌, refl, sym, ◌∙◌}
-use mathlib.Core.Bool.{false}
+use mathlib.Core.Bool.{true, false}
 use mathlib.Core.List.{List, ◌∷◌}
+use native.Mathlib.Omega.{arith}
 use lib.ListN.{take, drop}
+use Rattle.std.specs.Result.{is_ok}
 use Rattle.store.specs.Layout.{Store, channels_of}
 use Rattle.checks.specs.Checks.{Check, first_failed}
 use Rattle.checks.proofs.Laws.{AllHold, failed_append, all_passed, fails_after, refused_as}
-use Rattle.open_checks.specs.declared.Checked.{Checked}
-use Rattle.open_checks.specs.declared.Checked.TheVariants as early
-use Rattle.open_rules.specs.declared.Outcome.{Outcome}
-use Rattle.open_rules.specs.declared.Outcome.TheVariants.{Accepted, Refused}
+use Rattle.kinds.specs.declared.Refusal.{Refusal}
+use Rattle.std.specs.declared.result.Result.{Result}
+use Rattle.std.specs.declared.result.Result.TheVariants.{Ok, Err}
 use Rattle.open_rules.specs.Request.{Request}
 use Rattle.open_rules.specs.Refusal.{early_checks, late_checks, opened}
 use Rattle.open_rules.specs.Open.{refusal, answer_on, open_outcome, open_answer, open_store}
+
+-- what `is_ok` says of an outcome
+pub yes_to : {o r : Result ℕ Refusal} → o ≡ r → is_ok o ≡ true → (x : ℕ) × (r ≡ Ok x)
+yes_to {o = Ok x} e h = (x, sym e)
+yes_to {o = Err why} e h = absurd (let z : ◌≡◌ {A = ℕ} 0 1 = cc in omega arith)
+
+pub no_to : {o r : Result ℕ Refusal} → o ≡ r → is_ok o ≡ false → (why : Refusal) × (r ≡ Err why)
+no_to {o = Ok x} e h = absurd (let z : ◌≡◌ {A = ℕ} 0 1 = cc in omega arith)
+no_to {o = Err why} e h = (why, sym e)
 
 module _ (w : Store) (q : Request) where
   -- the answer has the outcome
@@ -21,13 +31,13 @@ module _ (w : Store) (q : Request) where
   unfolding open_answer
   outcome_is = go (open_outcome w q) refl
     where
-      go : (o : Outcome) → open_outcome w q ≡ o → (open_answer w q).outcome ≡ open_outcome w q
-      go (Accepted x) e = rw (e, open_answer)
-      go (Refused number place) e = rw (e, open_answer)
+      go : (o : Result ℕ Refusal) → open_outcome w q ≡ o → (open_answer w q).outcome ≡ open_outcome w q
+      go (Ok x) e = rw (e, open_answer)
+      go (Err why) e = rw (e, open_answer)
 
   -- a refusal
-  module _ {number place : ℕ} (e : open_outcome w q ≡ Refused number place) where
-    pub answer_refused : refusal number place ≡ open_answer w q
+  module _ {why : Refusal} (e : open_outcome w q ≡ Err why) where
+    pub answer_refused : refusal why ≡ open_answer w q
     unfolding open_answer
     answer_refused = rw (e, open_answer)
 
@@ -36,8 +46,8 @@ module _ (w : Store) (q : Request) where
     store_refused = rw (e, open_store)
 
   -- a yes
-  module _ {x : ℕ} (e : open_outcome w q ≡ Accepted x) where
-    pub answer_accepted : answer_on (Accepted x) w q ≡ open_answer w q
+  module _ {x : ℕ} (e : open_outcome w q ≡ Ok x) where
+    pub answer_accepted : answer_on (Ok x) w q ≡ open_answer w q
     unfolding open_answer
     answer_accepted = rw (e, open_answer)
 
@@ -46,22 +56,22 @@ module _ (w : Store) (q : Request) where
     store_accepted = rw (e, open_store)
 
   -- where one of 17, 14 and 1 to 7 fails
-  pub early_refused : {passed : Checked} (number place : ℕ) → (early.Refused number place ≡ passed → ⊥)
-      → first_failed early.Refused (early_checks w q) passed ≡ early.Refused number place → open_outcome w q ≡ Refused number place
+  pub early_refused : {A : Type 0} {passed : Result A Refusal} (why : Refusal) → (Err why ≡ passed → ⊥)
+      → first_failed Err (early_checks w q) passed ≡ Err why → open_outcome w q ≡ Err why
   unfolding open_outcome
-  early_refused {passed} number place apart e =
-      failed_append Refused (early_checks w q) (late_checks w q) _
-      ∙ refused_as early.Refused Refused (λ m n i at f. ((cc), (cc))) (early_checks w q) passed _ number place apart e
+  early_refused {A} {passed} why apart e =
+      failed_append Err (early_checks w q) (late_checks w q) _
+      ∙ refused_as {A = Result A Refusal} Err Err (λ m n f. cc) (early_checks w q) passed _ why apart e
 
   -- where they hold, the others decide
   module _ (early : AllHold (early_checks w q)) where
-    late_decides : open_outcome w q ≡ first_failed Refused (late_checks w q) (Accepted (channels_of w))
+    late_decides : open_outcome w q ≡ first_failed Err (late_checks w q) (Ok (channels_of w))
     unfolding open_outcome
-    late_decides = failed_append Refused (early_checks w q) (late_checks w q) _ ∙ all_passed Refused (early_checks w q) _ early
+    late_decides = failed_append Err (early_checks w q) (late_checks w q) _ ∙ all_passed Err (early_checks w q) _ early
 
     pub late_refused : {x : Check} {rest : List Check} (k : ℕ) → drop k (late_checks w q) ≡ x ∷ rest
-        → AllHold (take k (late_checks w q)) → x.holds ≡ false → open_outcome w q ≡ Refused x.number x.place
-    late_refused k e h f = late_decides ∙ sym (fails_after Refused (late_checks w q) k _ e h f)
+        → AllHold (take k (late_checks w q)) → x.holds ≡ false → open_outcome w q ≡ Err x.refusal
+    late_refused k e h f = late_decides ∙ sym (fails_after Err (late_checks w q) k _ e h f)
 
-    pub all_accepted : AllHold (late_checks w q) → open_outcome w q ≡ Accepted (channels_of w)
-    all_accepted late = late_decides ∙ all_passed Refused (late_checks w q) _ late
+    pub all_accepted : AllHold (late_checks w q) → open_outcome w q ≡ Ok (channels_of w)
+    all_accepted late = late_decides ∙ all_passed Err (late_checks w q) _ late
