@@ -1,8 +1,8 @@
 -- What the checks before give to the messages: the delays of a route are small. And a stored route as a slice of the store.
-use Rattle.std.proofs.Common.{◌≡◌, ◌≤◌, ◌<◌, ℕ, zero, suc, true, refl, take, drop, arith, tests}
+use Rattle.std.proofs.Common.{◌≡◌, ◌≤◌, ◌<◌, ℕ, zero, suc, true, refl, List, length, take, drop, arith, tests}
 use mathlib.Core.Path.{◌∙◌}
 use lib.Seq.{get_or-take, get_or-drop}
-use Rattle.kinds.specs.Ranges.{most_p}
+use Rattle.kinds.specs.Ranges.{most_p, most_hops}
 use Rattle.store.specs.Layout.{Store, route_start, route_of, hops_of, delay_of}
 use Rattle.folds.specs.Folds.{every}
 use Rattle.store.specs.Sound.{channel_fits, place_fits}
@@ -33,7 +33,15 @@ module _ (w : Store) (r s : ℕ → ℕ) (n : ℕ) (same : (j : ℕ) → j < n �
     every_same (joins w r) (joins w s) n joins_same,
   )
 
--- a stored route as a slice of the store
-pub stored_route : (w : Store) (x n : ℕ) → route_passes w (along (take n (drop (route_start x) w))) n ≡ route_passes w (route_of w x) n
-stored_route w x n =
-    route_same w _ _ n (λ j k. get_or-take n (drop (route_start x) w) j 0 k ∙ get_or-drop (route_start x) w j 0)
+-- a stored route as a slice of what was read of the store
+pub stored_route : (w : Store) (x n : ℕ) → n ≤ most_hops
+    → route_passes w (along (take n (take most_hops (drop (route_start x) w)))) n ≡ route_passes w (route_of w x) n
+stored_route w x n h =
+    route_same w _ _ n (λ j k. get_or-take n (take most_hops (drop (route_start x) w)) j 0 k
+    ∙ get_or-take most_hops (drop (route_start x) w) j 0 (omega arith) ∙ get_or-drop (route_start x) w j 0)
+
+-- as it was read
+pub route_read : (w : Store) (x n : ℕ) {s : Store} {r : List ℕ} → n ≤ most_hops → s ≡ w
+    → r ≡ take most_hops (drop (route_start x) w) → length (take n r) ≡ n
+    → route_passes s (along (take n r)) (length (take n r)) ≡ route_passes w (route_of w x) n
+route_read w x n {s} {r} h e f g = rw (g, e, f) (stored_route w x n h)

@@ -17,7 +17,7 @@ fn route_passes(channel: &Record, n: usize) -> bool
     requires n_le_most_hops { n ≤ most_hops }
     ensures { result ≡ route_passes channel.now.store (route_of channel.now.store channel.now.x) n }
 {
-    store_route::passes(&channel.store(), channel.route(n))
+    store_route::passes(&channel.store(), &channel.route()[..n])
 }
 
 // Checks 1 to 5.

@@ -1,5 +1,5 @@
 // The record of a channel: its numbers, its route, and how far its messages are. Message `n` is counted from 1.
-ghost use Rattle.std.specs.Prelude.{◌≡◌, ◌%◌, ◌≤◌, ◌<◌, length, take, drop};
+ghost use Rattle.std.specs.Prelude.{◌≡◌, ◌%◌, ◌<◌, take, drop};
 ghost use Rattle.kinds.specs.Ranges.{most_channels, most_hops};
 ghost use Rattle.store.specs.Layout.{Long, route_start, c_of, with_c, p_of, with_p, d_of, with_d, b_of, with_b, hops_of, with_hops};
 ghost use Rattle.store.specs.Layout.{messages_of, with_messages, route_of, with_route, delay_of, with_delay, sent_of, with_sent};
@@ -7,6 +7,7 @@ ghost use Rattle.store.specs.Layout.{time_of, with_time, end_of, with_end, ring,
 
 use super::lent::Lent;
 use super::{CHANNELS, RECORD, RING};
+use kinds::Route;
 use std::marker::Model;
 
 // The record as it is read.
@@ -43,14 +44,14 @@ impl Record<'_> {
         Lent::new(self.numbers)
     }
 
-    // The first `n` links of its route.
-    pub fn route(&self, n: usize) -> &[u64]
-        requires { n ≤ most_hops }
-        ensures links { result.now ≡ take n (drop (route_start self.now.x) self.now.store) }
-        ensures len { length result.now ≡ n }
+    // The links of its route, and what stands past its end.
+    pub fn route(&self) -> [u64; Route::MOST_HOPS]
+        ensures { result ≡ take most_hops (drop (route_start self.now.x) self.now.store) }
     {
         let start = CHANNELS + RECORD * self.x + 8;
-        &self.numbers[start..start + n]
+        let mut links = [0; Route::MOST_HOPS];
+        links.copy_from_slice(&self.numbers[start..start + Route::MOST_HOPS]);
+        links
     }
 
     pub fn c(&self) -> u64

@@ -24,3 +24,6 @@ sound_rows_rows_sound κs a = whole answer
 
 pub sound_is_sound : Unique sound.is_sound.ended sound_proofs.is_sound.Reads.Post
 sound_is_sound κs a = whole answer
+
+pub sound_check : Unique sound.check.ended sound_proofs.check.Reads.Post
+sound_check κs a = whole answer

@@ -5,10 +5,135 @@ use Rattle.store.specs.contracts.head as head
 use Rattle.store.proofs.head as head_proofs
 use Rattle.store.specs.contracts.link as link
 use Rattle.store.proofs.link as link_proofs
+use Rattle.store.specs.contracts.lent as lent
+use Rattle.store.proofs.lent as lent_proofs
 use Rattle.store_route.specs.contracts as store_route
 use Rattle.store_route.proofs as store_route_proofs
 use Rattle.unique.specs.Unique.{Unique}
 use Rattle.unique.proofs.Shapes.{whole, ◌&◌, more, answer, first}
+
+pub channel_record_new : Unique channel.Record.new.ended channel_proofs.Record.new.Reads.Post
+channel_record_new κs a = whole answer
+
+pub channel_record_store : Unique channel.Record.store.ended channel_proofs.Record.store.Reads.Post
+channel_record_store κs a = whole answer
+
+pub channel_record_route : Unique channel.Record.route.ended channel_proofs.Record.route.Reads.Post
+channel_record_route κs a = whole answer
+
+pub channel_record_c : Unique channel.Record.c.ended channel_proofs.Record.c.Reads.Post
+channel_record_c κs a = whole answer
+
+pub channel_record_p : Unique channel.Record.p.ended channel_proofs.Record.p.Reads.Post
+channel_record_p κs a = whole answer
+
+pub channel_record_d : Unique channel.Record.d.ended channel_proofs.Record.d.Reads.Post
+channel_record_d κs a = whole answer
+
+pub channel_record_b : Unique channel.Record.b.ended channel_proofs.Record.b.Reads.Post
+channel_record_b κs a = whole answer
+
+pub channel_record_hops : Unique channel.Record.hops.ended channel_proofs.Record.hops.Reads.Post
+channel_record_hops κs a = whole answer
+
+pub channel_record_messages : Unique channel.Record.messages.ended channel_proofs.Record.messages.Reads.Post
+channel_record_messages κs a = whole answer
+
+pub channel_record_link : Unique channel.Record.link.ended channel_proofs.Record.link.Reads.Post
+channel_record_link κs a = whole answer
+
+pub channel_record_delay : Unique channel.Record.delay.ended channel_proofs.Record.delay.Reads.Post
+channel_record_delay κs a = whole answer
+
+pub channel_record_sent : Unique channel.Record.sent.ended channel_proofs.Record.sent.Reads.Post
+channel_record_sent κs a = whole answer
+
+pub channel_record_time : Unique channel.Record.time.ended channel_proofs.Record.time.Reads.Post
+channel_record_time κs a = whole answer
+
+pub channel_record_end : Unique channel.Record.end.ended channel_proofs.Record.end.Reads.Post
+channel_record_end κs a = whole answer
+
+pub channel_record_time_in : Unique channel.Record.time_in.ended channel_proofs.Record.time_in.Reads.Post
+channel_record_time_in κs a = whole answer
+
+pub channel_record_end_in : Unique channel.Record.end_in.ended channel_proofs.Record.end_in.Reads.Post
+channel_record_end_in κs a = whole answer
+
+pub link_record_new : Unique link.Record.new.ended link_proofs.Record.new.Reads.Post
+link_record_new κs a = whole answer
+
+pub link_record_from : Unique link.Record.from.ended link_proofs.Record.from.Reads.Post
+link_record_from κs a = whole answer
+
+pub link_record_to : Unique link.Record.to.ended link_proofs.Record.to.Reads.Post
+link_record_to κs a = whole answer
+
+pub link_record_horizon : Unique link.Record.horizon.ended link_proofs.Record.horizon.Reads.Post
+link_record_horizon κs a = whole answer
+
+pub link_record_buffer : Unique link.Record.buffer.ended link_proofs.Record.buffer.Reads.Post
+link_record_buffer κs a = whole answer
+
+pub link_record_rows : Unique link.Record.rows.ended link_proofs.Record.rows.Reads.Post
+link_record_rows κs a = whole answer
+
+pub link_record_row_channel : Unique link.Record.row_channel.ended link_proofs.Record.row_channel.Reads.Post
+link_record_row_channel κs a = whole answer
+
+pub link_record_row_place : Unique link.Record.row_place.ended link_proofs.Record.row_place.Reads.Post
+link_record_row_place κs a = whole answer
+
+pub lent_lent_new : Unique lent.Lent.new.ended lent_proofs.Lent.new.Reads.Post
+lent_lent_new κs a = whole answer
+
+pub lent_lent_links : Unique lent.Lent.links.ended lent_proofs.Lent.links.Reads.Post
+lent_lent_links κs a = whole answer
+
+pub lent_lent_channels : Unique lent.Lent.channels.ended lent_proofs.Lent.channels.Reads.Post
+lent_lent_channels κs a = whole answer
+
+pub lent_lent_clock : Unique lent.Lent.clock.ended lent_proofs.Lent.clock.Reads.Post
+lent_lent_clock κs a = whole answer
+
+pub lent_lent_link : Unique lent.Lent.link.ended lent_proofs.Lent.link.Reads.Post
+lent_lent_link κs a = whole answer
+
+pub lent_lent_channel : Unique lent.Lent.channel.ended lent_proofs.Lent.channel.Reads.Post
+lent_lent_channel κs a = whole answer
+
+pub lent_fitting_new : Unique lent.Fitting.new.ended lent_proofs.Fitting.new.Reads.Post
+lent_fitting_new κs a = whole answer
+
+pub lent_fitting_links : Unique lent.Fitting.links.ended lent_proofs.Fitting.links.Reads.Post
+lent_fitting_links κs a = whole (answer & more)
+
+pub lent_fitting_channels : Unique lent.Fitting.channels.ended lent_proofs.Fitting.channels.Reads.Post
+lent_fitting_channels κs a = whole (answer & more)
+
+pub lent_fitting_link : Unique lent.Fitting.link.ended lent_proofs.Fitting.link.Reads.Post
+lent_fitting_link κs a = whole (answer & more)
+
+pub lent_fitting_channel : Unique lent.Fitting.channel.ended lent_proofs.Fitting.channel.Reads.Post
+lent_fitting_channel κs a = whole (answer & more)
+
+pub lent_sound_new : Unique lent.Sound.new.ended lent_proofs.Sound.new.Reads.Post
+lent_sound_new κs a = whole answer
+
+pub lent_sound_links : Unique lent.Sound.links.ended lent_proofs.Sound.links.Reads.Post
+lent_sound_links κs a = whole (answer & more)
+
+pub lent_sound_channels : Unique lent.Sound.channels.ended lent_proofs.Sound.channels.Reads.Post
+lent_sound_channels κs a = whole (answer & more)
+
+pub lent_sound_link : Unique lent.Sound.link.ended lent_proofs.Sound.link.Reads.Post
+lent_sound_link κs a = whole (answer & more)
+
+pub lent_sound_channel : Unique lent.Sound.channel.ended lent_proofs.Sound.channel.Reads.Post
+lent_sound_channel κs a = whole (answer & more)
+
+pub lent_sound_clock : Unique lent.Sound.clock.ended lent_proofs.Sound.clock.Reads.Post
+lent_sound_clock κs a = whole (answer & more)
 
 pub channel_clear : Unique channel.clear.ended channel_proofs.clear.Reads.Post
 channel_clear κs a = whole first
