@@ -16,9 +16,9 @@ use Rattle.folds.specs.Folds.{first_not}
 use Rattle.folds.proofs.Folds.{below, every_at, first_is}
 use Rattle.store.proofs.Laws.Sound.{sound_fit}
 use Rattle.checks.proofs.Laws.{failed_append, all_passed, refused_as}
-use Rattle.slot_rules.specs.declared.Turn.TheVariants.{Ran, Refused}
-use Rattle.slot_rules.specs.declared.Waited.{Waited}
-use Rattle.slot_rules.specs.declared.Waited.TheVariants.{Slots, Refused as Waited-as-Refused}
+use Rattle.std.specs.declared.result.Result.{Result}
+use Rattle.std.specs.declared.result.Result.TheVariants.{Ok, Err}
+use Rattle.kinds.specs.declared.Refusal.{Refusal}
 use Rattle.slot_rules.specs.Pick.{pick_of}
 use Rattle.slot_rules.specs.Slot.{Send, send_from, sends_to, slot_sends, moved_to, moved, slot_checks, slot_turn, slot_sent, slot_store}
 use Rattle.slot_rules.specs.Idle.{quiet, idle_of, skipped, wait_checks, skip_answer, skip_store}
@@ -75,10 +75,10 @@ module _ {w : Store} {size : ℕ} (s : Still w size) where
   still_sound : sound_of (moved w) ≡ true
   still_sound = rw still_moved (clock_sound w (clock_of w + 1) s.sound (omega (arith, s.clock)))
 
-  still_turn : slot_turn w size ≡ Ran
+  still_turn : slot_turn w size ≡ Ok tt
   unfolding slot_turn
   still_turn =
-      all_passed Refused (slot_checks w size) Ran
+      all_passed Err (slot_checks w size) (Ok tt)
       (s.sound, (lt-ltb _ _ s.clock, (le-leb _ _ s.wide, (still_sound, tt))))
 
   still_sent : slot_sent w size ≡ []
@@ -130,22 +130,21 @@ module _ (w : Store) (e : sound_of w ≡ true) where
     run_clock (suc m) h = rw (run_clock m (omega arith)) (idle_store m h)
 
     -- and each of them ran, and sent nothing
-    pub run_turn : (i : ℕ) → i < idle_of w → slot_turn (run w size i) size ≡ Ran
+    pub run_turn : (i : ℕ) → i < idle_of w → slot_turn (run w size i) size ≡ Ok tt
     run_turn i h = rw (run_clock i (omega arith)) (still_turn (idle_still i h))
 
     pub run_sent : (i : ℕ) → i < idle_of w → slot_sent (run w size i) size ≡ []
     run_sent i h = rw (run_clock i (omega arith)) (still_sent (idle_still i h))
 
 -- a skip is refused as a slot is, and a refused slot leaves the store: so does any number of them
-module _ (w : Store) (size : ℕ) {number place : ℕ} where
-  refused_turn : (n : ℕ) → skip_answer w n ≡ Waited-as-Refused number place → slot_turn w size ≡ Refused number place
+module _ (w : Store) (size : ℕ) {refusal : Refusal} where
+  refused_turn : (n : ℕ) → skip_answer w n ≡ Err refusal → slot_turn w size ≡ Err refusal
   unfolding skip_answer slot_turn
   refused_turn n e =
-      failed_append Refused (wait_checks w) (drop 2 (slot_checks w size)) Ran
-      ∙ refused_as Waited-as-Refused Refused (λ m n i at s. ((cc), (cc))) (wait_checks w) _ _ number place
-      (λ s. let z : ◌≡◌ {A = ℕ} 0 1 = cc in omega arith) e
+      failed_append Err (wait_checks w) (drop 2 (slot_checks w size)) (Ok tt)
+      ∙ refused_as {A = Result ℕ Refusal} Err Err (λ m n s. cc) (wait_checks w) _ _ refusal (λ s. absurd cc) e
 
-  refused_run : slot_turn w size ≡ Refused number place → (m : ℕ) → run w size m ≡ w
+  refused_run : slot_turn w size ≡ Err refusal → (m : ℕ) → run w size m ≡ w
   unfolding run
   refused_run e zero = refl
   refused_run e (suc m) = rw (refused_run e m, e)
@@ -154,9 +153,9 @@ module _ (w : Store) (size : ℕ) {number place : ℕ} where
 pub skip_runs : (w : Store) (size n : ℕ) → 5 * links_of w ≤ size → skip_store w n ≡ run w size (skipped w n)
 skip_runs w size n wide = go (skip_answer w n) refl
   where
-    go : (a : Waited) → skip_answer w n ≡ a → skip_store w n ≡ run w size (skipped w n)
-    go (Slots slots) e =
+    go : (a : Result ℕ Refusal) → skip_answer w n ≡ a → skip_store w n ≡ run w size (skipped w n)
+    go (Ok slots) e =
         skip_clock w n e
         ∙ rw (skip_slots w n e)
         (sym (run_clock w (skip_holds w n e).0 size wide (skipped w n) (min-le_right n (idle_of w))))
-    go (Waited-as-Refused number place) e = skip_stays w n e ∙ sym (refused_run w size (refused_turn w size n e) (skipped w n))
+    go (Err refusal) e = skip_stays w n e ∙ sym (refused_run w size (refused_turn w size n e) (skipped w n))
