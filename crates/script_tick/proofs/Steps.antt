@@ -1,5 +1,6 @@
 -- What one step of a tick leaves, by whether its slot was refused, sent nothing or sent.
 use Prim.Native.Nat.{ℕ, suc, ◌+◌, ◌-◌, ◌*◌, ◌/◌, ◌≤◌, ◌<◌}
+use Rattle.std.specs.Prelude.{Result, Ok, Err}
 use mathlib.Core.Path.{◌≡◌, refl, sym, ◌∙◌, ap}
 use mathlib.Core.List.{List, [], ◌∷◌, ◌++◌}
 use native.Mathlib.Omega.{arith}
@@ -8,9 +9,8 @@ use Rattle.text_decimal.specs.Decimal.{Text}
 use Rattle.text_decimal.specs.Put.{put_at, part_of}
 use Rattle.text_decimal.proofs.Laws.Put.{take_put, part_put}
 use Rattle.store.specs.Layout.{Store, links_of}
-use Rattle.slot_rules.specs.declared.Turn.TheVariants.{Ran, Refused}
-use Rattle.slot_rules.specs.declared.Waited.{Waited}
-use Rattle.slot_rules.specs.declared.Waited.TheVariants.{Slots, Refused as Waited-as-Refused}
+use Rattle.kinds.specs.declared.Refusal.{Refusal}
+use Rattle.kinds.specs.Refusals.{number_of, place_of}
 use Rattle.slot_rules.specs.Slot.{numbers, slot_sends, moved, slot_turn, slot_number, slot_place, slot_sent, slot_store}
 use Rattle.slot_rules.specs.Idle.{skip_answer, skip_store}
 use Rattle.slot_rules.proofs.Laws.Sends.{numbers_length}
@@ -47,26 +47,35 @@ goes w left out at text later rest listed stored room less full end size put end
 module _ (w : Store) (sent : List ℕ) (later : Store) (number place : ℕ) (gave : sent ≡ numbers (slot_sent w send_room))
     (left_store : later ≡ slot_store w send_room) (told : number ≡ slot_number w send_room) (at_place : place ≡ slot_place w send_room) where
   -- it was refused
-  module _ (z : number ≡ 0 → ⊥) where
-    refused : slot_turn w send_room ≡ Refused number place
-    refused = rw (told, at_place) (number_refused w (λ e. z (told ∙ e)))
-
+  module _ (why : Refusal) (e : slot_turn w send_room ≡ Err why) (left : ℕ) (n : left ≡ suc (left - 1)) where
     stays : later ≡ w
-    stays = left_store ∙ rw refused
+    stays = left_store ∙ rw e
 
-    module _ (left : ℕ) (some : 0 < left) (out : List ℕ) (at : ℕ) (fits : at ≤ last_for_slot) where
-      pub step_refused : (full : List ℕ) (end : ℕ) → length out ≡ buffer_length → full ≡ put_at out at (refused_line number place)
-          → end ≡ at + length (refused_line number place) → Goes w left out at later 0 full end
-      step_refused =
-          let n : left ≡ suc (left - 1) = omega arith in
-          let l = line_length refused_word (number ∷ (place ∷ [])) in
-          goes w left out at (refused_line number place) later 0
-          (rw stays (ap (tick_out w) n ∙ refused_out w number place refused (left - 1)))
-          (rw stays (ap (tick_store w) n ∙ refused_store w number place refused (left - 1))) (omega arith) some
+    said : refused_line number place ≡ refused_line (number_of why) (place_of why)
+    said =
+        let number_is : number ≡ number_of why = told ∙ rw e in
+        let place_is : place ≡ place_of why = at_place ∙ rw e in
+        rw (number_is, place_is)
+
+    refused_listed : tick_out w left ≡ refused_line number place ++ tick_out later 0
+    refused_listed = rw (stays, said) (ap (tick_out w) n ∙ refused_out w why e (left - 1))
+
+    refused_stored : tick_store w left ≡ tick_store later 0
+    refused_stored = rw stays (ap (tick_store w) n ∙ refused_store w why e (left - 1))
+
+  module _ (z : number ≡ 0 → ⊥) (left : ℕ) (some : 0 < left) (out : List ℕ) (at : ℕ) (fits : at ≤ last_for_slot) where
+    pub step_refused : (full : List ℕ) (end : ℕ) → length out ≡ buffer_length → full ≡ put_at out at (refused_line number place)
+        → end ≡ at + length (refused_line number place) → Goes w left out at later 0 full end
+    step_refused =
+        let r = number_refused w (λ e. z (told ∙ e)) in
+        let n : left ≡ suc (left - 1) = omega arith in
+        let l = line_length refused_word (number ∷ (place ∷ [])) in
+        goes w left out at (refused_line number place) later 0 (refused_listed r.0 r.1 left n) (refused_stored r.0 r.1 left n)
+        (omega arith) some
 
   -- it ran
   module _ (z : number ≡ 0) where
-    ran : slot_turn w send_room ≡ Ran
+    ran : slot_turn w send_room ≡ Ok tt
     ran = number_ran w (sym told ∙ z)
 
     part : sent ≡ numbers (slot_sends w)
@@ -117,7 +126,7 @@ module _ (w : Store) (sent : List ℕ) (later : Store) (number place : ℕ) (gav
         unfolding send_lines_in
         quiet = rw none at listed
 
-        pub step_still : (answer : Waited) (slots : ℕ) → answer ≡ skip_answer later (left - 1) → answer ≡ Slots slots
+        pub step_still : (answer : Result ℕ Refusal) (slots : ℕ) → answer ≡ skip_answer later (left - 1) → answer ≡ Ok slots
             → Goes w left out at last (left - 1 - slots) out at
         step_still answer slots e f = let a = sym e ∙ f in record {
           listed = rw (b, part_none out at) (quiet ∙ skip_out later links (left - 1) a (left - 1) (omega arith));
@@ -128,9 +137,9 @@ module _ (w : Store) (sent : List ℕ) (later : Store) (number place : ℕ) (gav
         }
 
         -- or the clock is at the end slot
-        pub step_end : (answer : Waited) (why place : ℕ) → answer ≡ skip_answer later (left - 1)
-            → answer ≡ Waited-as-Refused why place → Goes w left out at last (left - 1) out at
-        step_end answer why place e f =
+        pub step_end : (answer : Result ℕ Refusal) (why : Refusal) → answer ≡ skip_answer later (left - 1)
+            → answer ≡ Err why → Goes w left out at last (left - 1) out at
+        step_end answer why e f =
             let s = b ∙ skip_stays later (left - 1) (sym e ∙ f) in
             record {
               listed = rw (s, part_none out at) quiet;

@@ -1,10 +1,10 @@
 -- What a `tick` line writes, and the store after it: document 01, "The program's listing".
-use Rattle.std.specs.Prelude.{ℕ, zero, suc, ◌≤◌, ◌<◌, ◌≡◌, Option, None, Some, List, [], ◌++◌, take}
+use Rattle.std.specs.Prelude.{ℕ, zero, suc, ◌≤◌, ◌<◌, ◌≡◌, Option, None, Some, Result, Ok, Err, List, [], ◌++◌, take}
 use Rattle.text_decimal.specs.Decimal.{Text}
 use Rattle.text_decimal.specs.Put.{part_of}
 use Rattle.store.specs.Layout.{Store, clock_of}
-use Rattle.slot_rules.specs.declared.Turn.{Turn}
-use Rattle.slot_rules.specs.declared.Turn.TheVariants.{Ran, Refused}
+use Rattle.kinds.specs.declared.Refusal.{Refusal}
+use Rattle.kinds.specs.Refusals.{number_of, place_of}
 use Rattle.slot_rules.specs.Slot.{slot_sends, moved, slot_turn}
 use Rattle.script_listing.specs.Listing.{send_lines, refused_line, slot_line}
 use Rattle.script_listing.specs.Buffer.{buffer_length}
@@ -14,18 +14,18 @@ abbrev pub send_room : ℕ
 send_room = 80
 
 -- "A slot refused within a `tick` prints `refused` once and ends that `tick`, with its `slot` line."
-abbrev pub turn_out : Turn → Store → (rest : Text) → Text
-turn_out Ran w rest = send_lines (slot_sends w) ++ rest
-turn_out (Refused number place) w rest = refused_line number place ++ slot_line (clock_of w)
+abbrev pub turn_out : Result (Unit {0}) Refusal → Store → (rest : Text) → Text
+turn_out (Ok ran) w rest = send_lines (slot_sends w) ++ rest
+turn_out (Err refusal) w rest = refused_line (number_of refusal) (place_of refusal) ++ slot_line (clock_of w)
 
 -- "`slot` the clock after a `tick` line, printed once for each"
 unfoldable pub tick_out : Store → (slots : ℕ) → Text
 tick_out w zero = slot_line (clock_of w)
 tick_out w (suc n) = turn_out (slot_turn w send_room) w (tick_out (moved w) n)
 
-abbrev pub turn_store : Turn → Store → (rest : Store) → Store
-turn_store Ran w rest = rest
-turn_store (Refused number place) w rest = w
+abbrev pub turn_store : Result (Unit {0}) Refusal → Store → (rest : Store) → Store
+turn_store (Ok ran) w rest = rest
+turn_store (Err refusal) w rest = w
 
 unfoldable pub tick_store : Store → (slots : ℕ) → Store
 tick_store w zero = w

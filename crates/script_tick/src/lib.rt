@@ -9,7 +9,6 @@ ghost use Rattle.script_tick.specs.Tick.{Goes, tick_out, tick_store, rest_out, r
 
 use kinds::Network;
 use script_listing::{BUFFER, LAST_FOR_SLOT};
-use slot_rules::Waited;
 use store::head;
 
 // Where the listing goes on in the buffer, and how many slots are left.
@@ -43,7 +42,7 @@ fn step(store: &mut [u64; store::LENGTH], left: u64, out: &mut [u8; BUFFER], at:
     let rest = left - 1;
     let count = sends.len() / 5;
     if count == 0 {
-        let Waited::Slots(skipped) = slot_wait::skip(store, rest) else {
+        let Ok(skipped) = slot_wait::skip(store, rest) else {
             return Stepped { at, left: rest }; // nothing is moved on; the next slot is refused too, and says why
         };
         let later = rest - skipped;

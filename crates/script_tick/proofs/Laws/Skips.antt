@@ -1,11 +1,10 @@
 -- Slots that are skipped change nothing in a tick: each of them would have run and sent nothing.
 use Prim.Native.Nat.{ℕ, zero, suc, ◌+◌, ◌-◌, ◌*◌, ◌≤◌, ◌<◌}
+use Rattle.std.specs.Prelude.{Ok}
 use mathlib.Core.Path.{◌≡◌, ◌∙◌, ap}
 use mathlib.Core.List.{[]}
 use native.Mathlib.Omega.{arith}
 use Rattle.store.specs.Layout.{Store, links_of}
-use Rattle.slot_rules.specs.declared.Turn.TheVariants.{Ran}
-use Rattle.slot_rules.specs.declared.Waited.TheVariants.{Slots}
 use Rattle.slot_rules.specs.Slot.{slot_sends, slot_turn, slot_sent}
 use Rattle.slot_rules.specs.Idle.{skip_answer, skip_store}
 use Rattle.slot_wait.specs.Run.{run}
@@ -21,7 +20,7 @@ after w m = run w send_room m
 
 -- the first m slots run, and nothing is sent in them
 record Silent (w : Store) (m : ℕ) : Type 0 where
-  ran : (i : ℕ) → i < m → slot_turn (after w i) send_room ≡ Ran
+  ran : (i : ℕ) → i < m → slot_turn (after w i) send_room ≡ Ok tt
   none : (i : ℕ) → i < m → slot_sent (after w i) send_room ≡ []
 
 module _ (w : Store) where
@@ -29,7 +28,7 @@ module _ (w : Store) where
   silent_fewer m s = record { ran = λ i h. s.ran i (omega arith); none = λ i h. s.none i (omega arith) }
 
   module _ (m : ℕ) (s : Silent w (suc m)) (n : ℕ) where
-    last_ran : slot_turn (after w m) send_room ≡ Ran
+    last_ran : slot_turn (after w m) send_room ≡ Ok tt
     last_ran = s.ran m (omega arith)
 
     none_sent : slot_sends (after w m) ≡ []
@@ -58,10 +57,10 @@ module _ (w : Store) where
       rw e (silent_store m (silent_fewer m s) (suc n) ∙ last_store m s n)
 
 -- so are those that are skipped, of which there are no more than were asked for
-pub skip_few : (w : Store) (m : ℕ) {slots : ℕ} → skip_answer w m ≡ Slots slots → slots ≤ m
+pub skip_few : (w : Store) (m : ℕ) {slots : ℕ} → skip_answer w m ≡ Ok slots → slots ≤ m
 skip_few w m a = omega (arith, skip_slots w m a)
 
-module _ (w : Store) (wide : 5 * links_of w ≤ send_room) (m : ℕ) {slots : ℕ} (a : skip_answer w m ≡ Slots slots) where
+module _ (w : Store) (wide : 5 * links_of w ≤ send_room) (m : ℕ) {slots : ℕ} (a : skip_answer w m ≡ Ok slots) where
   silent : Silent w slots
   silent = record {
     ran = λ i h. run_turn w (skip_holds w m a).0 send_room wide i (omega (arith, skip_slots w m a));

@@ -13,13 +13,13 @@ pub returns-in_default : goal.returns-in_default
 returns-in_default c = search (rules, step_end)
 
 pub overflow_sub-later : goal.overflow_sub-later
-overflow_sub-later c = omega (arith, skip_few _ _ (sym c.skip.ensures.value ∙ c.in-Slots.is))
+overflow_sub-later c = omega (arith, skip_few _ _ (sym c.skip.ensures.value ∙ c.in-Ok.is))
 
 pub returns-then-count-eq0 : goal.returns-then-count-eq0
 returns-then-count-eq0 c = search (rules, step_still)
 
-pub sends-end-requires-clause-count_in_bounds_2 : goal.sends-end-requires-clause-count_in_bounds_2
-sends-end-requires-clause-count_in_bounds_2 c = search (rules, sends_fit)
+pub sends-end-requires-clause-room : goal.sends-end-requires-clause-room
+sends-end-requires-clause-room c = search (rules, sends_fit)
 
 pub returns : goal.returns
 returns c = search (rules, step_sent)
