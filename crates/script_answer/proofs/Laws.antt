@@ -1,16 +1,16 @@
 -- How much a line of a running room writes.
 use Prim.Native.Nat.{ℕ, ◌≤◌}
+use Rattle.std.specs.Prelude.{Result, Ok, Err}
 use mathlib.Core.Path.{◌≡◌, refl}
 use mathlib.Core.List.{List, [], ◌∷◌}
 use native.Mathlib.Omega.{arith}
 use lib.ListN.{length}
 use Rattle.store.specs.Layout.{Store, number_at}
-use Rattle.open_rules.specs.declared.Outcome.{Outcome}
-use Rattle.open_rules.specs.declared.Outcome.TheVariants.{Accepted, Refused}
+use Rattle.kinds.specs.declared.Refusal.{Refusal}
+use Rattle.kinds.specs.Refusals.{number_of, place_of}
 use Rattle.open_rules.specs.declared.Opening.{Opening}
 use Rattle.open_rules.specs.Open.{open_answer}
-use Rattle.offer_rules.specs.declared.Offered.{Offered}
-use Rattle.offer_rules.specs.declared.Offered.TheVariants.{Accepted as Offered-as-Accepted, Refused as Offered-as-Refused}
+use Rattle.offer_rules.specs.declared.Accepted.{Accepted}
 use Rattle.offer_rules.specs.Offer.{offer_answer}
 use Rattle.script_line.specs.declared.Line.{Line}
 use Rattle.script_line.specs.declared.Line.TheVariants.{Bad, Link, Open, Offer, Tick}
@@ -26,17 +26,17 @@ pub refused_length : (number place : ℕ) → length (refused_line number place)
 refused_length number place = line_length refused_word (number ∷ (place ∷ []))
 
 -- of an open, and of an offer
-open_length : (a : Opening) (n : ℕ) → ((x : ℕ) → a.outcome ≡ Accepted x → n ≤ 8) → length (open_out a n) ≤ 533
+open_length : (a : Opening) (n : ℕ) → ((x : ℕ) → a.outcome ≡ Ok x → n ≤ 8) → length (open_out a n) ≤ 533
 open_length a n few = go a.outcome refl
   where
-    go : (o : Outcome) → a.outcome ≡ o → length (open_out a n) ≤ 533
-    go (Accepted x) e = rw e (omega (arith, few x e, channel_length a.responses a.delays a.reserved x n))
-    go (Refused number place) e = rw e (omega (arith, refused_length number place))
+    go : (o : Result ℕ Refusal) → a.outcome ≡ o → length (open_out a n) ≤ 533
+    go (Ok x) e = rw e (omega (arith, few x e, channel_length a.responses a.delays a.reserved x n))
+    go (Err refusal) e = rw e (omega (arith, refused_length (number_of refusal) (place_of refusal)))
 
-offer_length : (a : Offered) (channel : ℕ) → length (offer_out a channel) ≤ 533
-offer_length (Offered-as-Accepted message logical) channel =
-    omega (arith, line_length accept_word (channel ∷ (message ∷ (logical ∷ []))))
-offer_length (Offered-as-Refused number place) channel = omega (arith, refused_length number place)
+offer_length : (a : Result Accepted Refusal) (channel : ℕ) → length (offer_out a channel) ≤ 533
+offer_length (Ok accepted) channel =
+    omega (arith, line_length accept_word (channel ∷ (accepted.message ∷ (accepted.time ∷ []))))
+offer_length (Err refusal) channel = omega (arith, refused_length (number_of refusal) (place_of refusal))
 
 pub asked_length : (w : Store) (asked : Line) (ns : List ℕ) (count : ℕ) → asks_of asked ≤ length ns
     → length (asked_out w asked ns count) ≤ 533

@@ -1,14 +1,13 @@
 -- What a line of a running room does and writes: document 01, "The program's listing".
-use Rattle.std.specs.Prelude.{ℕ, ◌+◌, List, [], take, drop}
+use Rattle.std.specs.Prelude.{ℕ, ◌+◌, Result, Ok, Err, List, [], take, drop}
 use Rattle.text_decimal.specs.Decimal.{Text}
+use Rattle.kinds.specs.declared.Refusal.{Refusal}
+use Rattle.kinds.specs.Refusals.{number_of, place_of}
 use Rattle.store.specs.Layout.{Store, number_at}
-use Rattle.open_rules.specs.declared.Outcome.{Outcome}
-use Rattle.open_rules.specs.declared.Outcome.TheVariants.{Accepted, Refused}
 use Rattle.open_rules.specs.declared.Opening.{Opening}
 use Rattle.open_rules.specs.Request.{Request}
 use Rattle.open_rules.specs.Open.{open_answer, open_store}
-use Rattle.offer_rules.specs.declared.Offered.{Offered}
-use Rattle.offer_rules.specs.declared.Offered.TheVariants.{Accepted as Offered-as-Accepted, Refused as Offered-as-Refused}
+use Rattle.offer_rules.specs.declared.Accepted.{Accepted}
 use Rattle.offer_rules.specs.Offer.{offer_answer, offer_store}
 use Rattle.script_line.specs.declared.Line.{Line}
 use Rattle.script_line.specs.declared.Line.TheVariants.{Bad, Link, Open, Offer, Tick}
@@ -25,17 +24,17 @@ request_in numbers hops = record {
 }
 
 -- "`channel` number, then response/delay/reserved per link", or "`refused` number, place"
-abbrev pub opened_out : Outcome → (responses delays reserved : List ℕ) → (hops : ℕ) → Text
-opened_out (Accepted channel) responses delays reserved hops = channel_line channel responses delays reserved hops
-opened_out (Refused number place) responses delays reserved hops = refused_line number place
+abbrev pub opened_out : Result ℕ Refusal → (responses delays reserved : List ℕ) → (hops : ℕ) → Text
+opened_out (Ok channel) responses delays reserved hops = channel_line channel responses delays reserved hops
+opened_out (Err refusal) responses delays reserved hops = refused_line (number_of refusal) (place_of refusal)
 
 abbrev pub open_out : Opening → (hops : ℕ) → Text
 open_out a hops = opened_out a.outcome a.responses a.delays a.reserved hops
 
 -- "`accept` channel, message, logical time", or "`refused` number, place"
-abbrev pub offer_out : Offered → (channel : ℕ) → Text
-offer_out (Offered-as-Accepted message logical) channel = accept_line channel message logical
-offer_out (Offered-as-Refused number place) channel = refused_line number place
+abbrev pub offer_out : Result Accepted Refusal → (channel : ℕ) → Text
+offer_out (Ok accepted) channel = accept_line channel accepted.message accepted.time
+offer_out (Err refusal) channel = refused_line (number_of refusal) (place_of refusal)
 
 -- A line of a running room, the `count`th of the script: the store after it, and what it writes. "A line that does not read, an
 -- empty one or a `link` after set-up prints `bad` and its number, counted from 1". The slots of a `tick` come after it.

@@ -3,6 +3,7 @@
 
 ghost use Rattle.std.specs.Prelude.{◌≡◌, ◌+◌, ◌≤◌, length};
 ghost use Rattle.text_decimal.specs.Put.{put_at};
+ghost use Rattle.kinds.specs.Refusals.{number_of, place_of};
 ghost use Rattle.open_rules.specs.Open.{open_answer, open_store};
 ghost use Rattle.offer_rules.specs.Offer.{offer_answer, offer_store};
 ghost use Rattle.script_listing.specs.Buffer.{last_for_line};
@@ -10,17 +11,16 @@ ghost use Rattle.script_listing.specs.Listing.{refused_line, bad_line};
 ghost use Rattle.script_line.specs.Line.{most_numbers};
 ghost use Rattle.script_answer.specs.Answer.{request_in, open_out, offer_out, asked_store, asked_out, asks_of};
 
-use offer_rules::Offered;
-use open_rules::Outcome;
+use kinds::Refusal;
 use script_line::{Line, MOST_NUMBERS};
 use script_listing::BUFFER;
 
-pub fn put_refused(out: &mut [u8], at: usize, number: u64, place: u64) -> usize
+pub fn put_refused(out: &mut [u8], at: usize, refusal: Refusal) -> usize
     requires { at + 50 ≤ length out.old }
-    ensures value { result ≡ at + length (refused_line number place) }
-    ensures out_after { out.new ≡ put_at out.old at (refused_line number place) }
+    ensures value { result ≡ at + length (refused_line (number_of refusal) (place_of refusal)) }
+    ensures out_after { out.new ≡ put_at out.old at (refused_line (number_of refusal) (place_of refusal)) }
 {
-    script_listing::line(out, at, b"refused", &[number, place])
+    script_listing::line(out, at, b"refused", &[refusal.number(), refusal.place()])
 }
 
 pub fn put_bad(out: &mut [u8; BUFFER], at: usize, count: u64) -> usize
@@ -54,7 +54,7 @@ fn open(
         &numbers[4..4 + hops],
     );
     match opening.outcome {
-        Outcome::Accepted(channel) => script_listing::channel(
+        Ok(channel) => script_listing::channel(
             out,
             at,
             channel,
@@ -63,7 +63,7 @@ fn open(
             &opening.reserved,
             hops,
         ),
-        Outcome::Refused(number, place) => put_refused(out, at, number, place),
+        Err(refusal) => put_refused(out, at, refusal),
     }
 }
 
@@ -81,11 +81,11 @@ fn offer(
         ≡ put_at out.old at (offer_out (offer_answer store.old channel packets) channel) }
 {
     match offer::offer(store, channel, packets) {
-        Offered::Accepted(message, logical) => {
-            let accepted = [channel, message, logical];
-            script_listing::line(out, at, b"accept", &accepted)
+        Ok(accepted) => {
+            let numbers = [channel, accepted.message, accepted.time];
+            script_listing::line(out, at, b"accept", &numbers)
         }
-        Offered::Refused(number, place) => put_refused(out, at, number, place),
+        Err(refusal) => put_refused(out, at, refusal),
     }
 }
 

@@ -7,4 +7,4 @@ use Rattle.script_answer.proofs.open.Goals as goal
 pub channel-requires-clause-hops_bound : goal.channel-requires-clause-hops_bound
 channel-requires-clause-hops_bound c =
     let e : 4 + c.args.hops - 4 ≡ c.args.hops = omega arith in
-    opened_few _ _ _ _ c.requires.route (rw e at c.open-opening.ensures.value) c.in-Accepted.is
+    opened_few _ _ _ _ c.requires.route (rw e at c.open-opening.ensures.value) c.in-Ok.is
