@@ -1,12 +1,13 @@
 -- How much a step writes.
 use Prim.Native.Nat.{ℕ, ◌+◌, ◌≤◌}
+use Rattle.std.specs.Prelude.{Result, Ok, Err}
 use mathlib.Core.Path.{◌≡◌, ap}
 use mathlib.Core.List.{List, [], ◌∷◌}
 use native.Mathlib.Omega.{arith}
 use lib.ListN.{length}
+use Rattle.kinds.specs.declared.Refusal.{Refusal}
+use Rattle.kinds.specs.Refusals.{number_of, place_of}
 use Rattle.store.specs.Layout.{Store}
-use Rattle.setup.specs.declared.SetUp.{SetUp}
-use Rattle.setup.specs.declared.SetUp.TheVariants.{Ready, Refused as SetUp-as-Refused}
 use Rattle.setup.specs.SetUp.{set_up_answer, set_up_store}
 use Rattle.script_listing.specs.Listing.{links_word}
 use Rattle.script_listing.proofs.Laws.Lengths.{line_length}
@@ -16,9 +17,9 @@ use Rattle.script_play.specs.Play.{started_on, started}
 use Rattle.script_play.specs.At.{played_at}
 
 -- the line of a set-up
-on_length : (a : SetUp) (w : Store) (n : ℕ) → length (started_on a w n).out ≤ 50
-on_length Ready w n = omega (arith, line_length links_word (n ∷ []))
-on_length (SetUp-as-Refused number place) w n = refused_length number place
+on_length : (a : Result (Unit {0}) Refusal) (w : Store) (n : ℕ) → length (started_on a w n).out ≤ 50
+on_length (Ok done) w n = omega (arith, line_length links_word (n ∷ []))
+on_length (Err refusal) w n = refused_length (number_of refusal) (place_of refusal)
 
 pub started_length : (w : Store) (links : List ℕ) (n : ℕ) → length (started w links n).out ≤ 50
 unfolding started

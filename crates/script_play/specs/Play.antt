@@ -1,10 +1,10 @@
 -- What a line of a script does and writes: document 01, "The program's listing".
-use Rattle.std.specs.Prelude.{ℕ, suc, ◌*◌, true, false, Option, None, Some, List, [], ◌++◌, ltb, take}
+use Rattle.std.specs.Prelude.{ℕ, suc, ◌*◌, true, false, Option, None, Some, Result, Ok, Err, List, [], ◌++◌, ltb, take}
 use Rattle.text_decimal.specs.Decimal.{Text}
 use Rattle.text_decimal.specs.Put.{put_at}
+use Rattle.kinds.specs.declared.Refusal.{Refusal}
+use Rattle.kinds.specs.Refusals.{number_of, place_of}
 use Rattle.store.specs.Layout.{Store, number_at}
-use Rattle.setup.specs.declared.SetUp.{SetUp}
-use Rattle.setup.specs.declared.SetUp.TheVariants.{Ready, Refused as SetUp-as-Refused}
 use Rattle.setup.specs.SetUp.{set_up_answer, set_up_store}
 use Rattle.script_line.specs.declared.Line.{Line as Asked}
 use Rattle.script_line.specs.declared.Line.TheVariants.{Bad, Link, Open, Offer, Tick}
@@ -38,10 +38,10 @@ answered w asked numbers count = record {
 }
 
 -- Set-up of the first n links that came. "A refused set-up prints `refused` and ends the run."
-abbrev pub started_on : SetUp → Store → (n : ℕ) → Step
-started_on Ready w n = record { phase = Running; next = None; store = w; out = links_line n }
-started_on (SetUp-as-Refused number place) w n =
-    record { phase = Over; next = None; store = w; out = refused_line number place }
+abbrev pub started_on : Result (Unit {0}) Refusal → Store → (n : ℕ) → Step
+started_on (Ok done) w n = record { phase = Running; next = None; store = w; out = links_line n }
+started_on (Err refusal) w n =
+    record { phase = Over; next = None; store = w; out = refused_line (number_of refusal) (place_of refusal) }
 
 unfoldable pub started : Store → (links : List ℕ) → (n : ℕ) → Step
 started w links n = started_on (set_up_answer w (take (4 * n) links)) (set_up_store w (take (4 * n) links)) n

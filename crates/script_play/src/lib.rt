@@ -13,7 +13,6 @@ ghost use Rattle.script_play.specs.At.{played_at};
 use kinds::Network;
 use script_line::{Line, MOST_NUMBERS};
 use script_listing::BUFFER;
-use setup::SetUp;
 
 // How far a run has come: so many good `link` lines before set-up; running; or over, its set-up refused.
 #[derive(Clone, Copy)]
@@ -80,7 +79,7 @@ fn set_up(
     ensures out_after { out.new ≡ put_at out.old at (started store.old links.now n).out }
 {
     match setup::set_up(store, &links[..4 * n.min(KEPT)]) {
-        SetUp::Ready => {
+        Ok(()) => {
             let end = script_listing::line(out, at, b"links", &[n as u64]);
             Played {
                 phase: Phase::Running,
@@ -88,8 +87,8 @@ fn set_up(
                 at: end,
             }
         }
-        SetUp::Refused(number, place) => {
-            let end = script_answer::put_refused(out, at, number, place);
+        Err(refusal) => {
+            let end = script_answer::put_refused(out, at, refusal);
             Played {
                 phase: Phase::Over,
                 next: None,
