@@ -12,7 +12,8 @@ use Rattle.script_play.specs.Play.{links_length, played, played_links, ended}
 abbrev pub counted : (lines : ℕ) → ℕ
 counted lines = min (suc lines) 18_446_744_073_709_551_615
 
--- What is written from here on, the slots of a `tick` before the next line: `lines` have been played, and these are to come.
+-- What is written from here on: `lines` have been played, and these are to come. After a `tick` its slots come before the next
+-- line: what they write, and the store after them.
 unfoldable pub lines_out : Phase → Store → (links : List ℕ) → (lines : ℕ) → List Text → Text
 lines_out phase w links lines [] = (ended phase w links).out
 lines_out phase w links lines (text ∷ rest) =

@@ -3,9 +3,6 @@ use Rattle.script_run.proofs.Rest.{pending_less}
 use Rattle.script_run.proofs.Steps.{piece_owed}
 use Rattle.script_run.proofs.slots.Goals as goal
 
-pub loop-after-smaller : goal.loop-after-smaller
-loop-after-smaller c = pending_less _ _ _ c.in-Some.is c.tick-ticked.ensures.fewer
-
 pub loop-after-preserved : goal.loop-after-preserved
 loop-after-preserved c =
     let i = c.loop-after.invariant in
@@ -17,3 +14,6 @@ loop-after-preserved c =
       fits = t.within.1;
       line = i.line;
     }
+
+pub loop-after-smaller : goal.loop-after-smaller
+loop-after-smaller c = pending_less _ _ _ c.in-Some.is c.tick-ticked.ensures.fewer
