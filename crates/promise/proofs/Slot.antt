@@ -41,7 +41,7 @@ module _ {links : List ℕ} {w : Store} {h : List Event} (i : Invariant links w 
   running : clock_of w < end_slot
   unfolding slot_turn
   running =
-      let all = accepted_all Err (slot_checks w size) (Ok tt) (Ok tt) (λ m e. let z : ◌≡◌ {A = ℕ} 0 1 = cc in omega arith) r in
+      let all = accepted_all Err (slot_checks w size) (Ok (tt {0})) (Ok (tt {0})) (λ m (e : ◌≡◌ {A = Result (Unit {0}) Refusal} (Err m) (Ok (tt {0}))). let z : ◌≡◌ {A = ℕ} 0 1 = cc in omega arith) r in
       ltb-true (clock_of w) end_slot all.1.0
 
   without : (x : ℕ) → messages_in (h ++ sends) x ≡ messages_in h x
