@@ -1,6 +1,6 @@
 -- What an open asks for.
 use Rattle.std.specs.Prelude.{ℕ, List, length}
-use Rattle.store.specs.Route.{from}
+use Rattle.store.specs.Route.{along}
 
 -- "`open` C, p, D, B, route"
 pub record Request : Type 0 where
@@ -15,4 +15,4 @@ abbrev pub hops : Request → ℕ
 hops q = length q.route
 
 abbrev pub link : Request → (j : ℕ) → ℕ
-link q = from q.route 0
+link q = along q.route
