@@ -18,7 +18,7 @@ use Rattle.response.specs.Trials.{response}
 use Rattle.response.proofs.Laws.Numbers.{row_at as row_in}
 use Rattle.store.specs.Layout.{Store, number_at, links_of, rows_of}
 use Rattle.folds.specs.Folds.{every, first_not, failing}
-use Rattle.store.specs.Route.{from, exists}
+use Rattle.store.specs.Route.{along, exists}
 use Rattle.folds.proofs.Folds.{every_at, every_false, Passing, passing_none, passing_more, passing_done, passing_first, passing_end}
 use Rattle.store.proofs.Laws.Sound.{Sound}
 use Rattle.open_rules.specs.Search.{row_at, rows_to, new_row, old_response, has_response, position, new_response, is_found}
@@ -30,11 +30,10 @@ use Rattle.open_rules.proofs.Laws.Ranged.{rows_most, c_most, delay_most, rows_ra
 use Rattle.open_search.proofs.Table.{Headed, Filled}
 
 -- a link of a route that was checked is there
-pub link_there : (w : Store) (route : List ℕ) (n : ℕ) → every (exists w (from route 0)) n ≡ true → (j : ℕ) → j < n
+pub link_there : (w : Store) (route : List ℕ) (n : ℕ) → every (exists w (along route)) n ≡ true → (j : ℕ) → j < n
     → number_at route j < links_of w
 link_there w route n e j h =
-    let z : 0 + j ≡ j = omega arith in
-    rw z at (ltb-true (from route 0 j) (links_of w) (every_at (exists w (from route 0)) n e j h))
+    ltb-true (along route j) (links_of w) (every_at (exists w (along route)) n e j h)
 
 -- what a turn works with: a new channel in range, a link of a sound store, and the table with its rows
 pub record Turn (w : Store) (c p l : ℕ) (t : List ℕ) : Type 0 where
@@ -116,15 +115,15 @@ module _ (f : ℕ → Bool) (n : ℕ) where
 
 -- the loop over the route: every place passed responds, and its response is written
 pub record Searching (w : Store) (c p : ℕ) (route found t : List ℕ) (silent : Option ℕ) (j : ℕ) : Type 0 where
-  pub passing : Passing (responds w c p (from route 0)) (length route) j
+  pub passing : Passing (responds w c p (along route)) (length route) j
   pub none : silent ≡ None
-  pub written : found ≡ eight (responses w c p (from route 0)) j
+  pub written : found ≡ eight (responses w c p (along route)) j
   pub table : Headed c p t
 
 -- the answer, and the numbers written
 pub record Searched (w : Store) (c p : ℕ) (route found : List ℕ) (silent : Option ℕ) : Type 0 where
-  pub value : silent ≡ failing (responds w c p (from route 0)) (length route)
-  pub found_after : found ≡ eight (responses w c p (from route 0)) (first_not (responds w c p (from route 0)) (length route))
+  pub value : silent ≡ failing (responds w c p (along route)) (length route)
+  pub found_after : found ≡ eight (responses w c p (along route)) (first_not (responds w c p (along route)) (length route))
 
 module _ (w : Store) (c p : ℕ) (route : List ℕ) where
   pub searching_none : (found t : List ℕ) → found ≡ replicate 8 0 → Headed c p t → Searching w c p route found t None 0
@@ -136,33 +135,31 @@ module _ (w : Store) (c p : ℕ) (route : List ℕ) where
       let e : j ≡ length route = omega (arith, g.passing.place) in
       record {
         value = g.none ∙ sym (failing_end _ _ (passing_done _ _ j g.passing h));
-        found_after = g.written ∙ ap (eight (responses w c p (from route 0))) (e ∙ passing_end _ _ j g.passing h);
+        found_after = g.written ∙ ap (eight (responses w c p (along route))) (e ∙ passing_end _ _ j g.passing h);
       }
 
   -- a is the answer for the new channel at place j
   module _ (found t : List ℕ) (silent : Option ℕ) (j : ℕ) (g : Searching w c p route found t silent j) (h : j < length route) (a : Answer)
       (e : a ≡ new_response w c p (number_at route j)) where
-    here : (o : Option ℕ) → a.response ≡ o → (new_response w c p (from route 0 j)).response ≡ o
-    here o f =
-        let z : 0 + j ≡ j = omega arith in
-        ap (λ (i : ℕ). (new_response w c p (number_at route i)).response) z ∙ ap (λ (b : Answer). b.response) (sym e) ∙ f
+    here : (o : Option ℕ) → a.response ≡ o → (new_response w c p (number_at route j)).response ≡ o
+    here o f = ap (λ (b : Answer). b.response) (sym e) ∙ f
 
     searching_more : (r : ℕ) → a.response ≡ Some r → Searching w c p route (set found j r) t silent (j + 1)
     searching_more r f =
         record {
           passing = passing_more _ _ j g.passing h (ap is_some (here (Some r) f));
           none = g.none;
-          written = rw (eight_more (responses w c p (from route 0)) j, g.written, ap (λ o. unwrap_or o 0) (here (Some r) f));
+          written = rw (eight_more (responses w c p (along route)) j, g.written, ap (λ o. unwrap_or o 0) (here (Some r) f));
           table = g.table;
         }
 
     searching_first : a.response ≡ None → Searched w c p route found (Some j)
     searching_first f =
-        let out : responds w c p (from route 0) j ≡ false = ap is_some (here None f) in
+        let out : responds w c p (along route) j ≡ false = ap is_some (here None f) in
         let i = passing_first _ _ j g.passing h out in
         record {
           value = ap Some i ∙ sym (failing_first _ _ (every_false _ _ j h out));
-          found_after = g.written ∙ ap (eight (responses w c p (from route 0))) i;
+          found_after = g.written ∙ ap (eight (responses w c p (along route))) i;
         }
 
 -- the loop over the rows of the link at place j: the same, and every row passed has a response below the new channel

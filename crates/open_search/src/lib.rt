@@ -6,31 +6,31 @@ ghost use Rattle.std.specs.Prelude.{◌≡◌, true, ◌≤◌, ◌<◌, length,
 ghost use Rattle.kinds.specs.Ranges.{most_hops, in_range_c, in_range_p};
 ghost use Rattle.store.specs.Layout.{links_of, rows_of};
 ghost use Rattle.folds.specs.Folds.{every, failing, first_not};
-ghost use Rattle.store.specs.Route.{from, exists};
-ghost use Rattle.store.specs.Sound.{sound_of};
+ghost use Rattle.store.specs.Route.{along, exists};
 ghost use Rattle.open_rules.specs.Search.{responds, responses as responses_of};
 ghost use Rattle.open_rules.specs.Shares.{eight};
 ghost use Rattle.open_search.specs.Table.{table_written};
 
 use kinds::{Channel, Link, Route};
 use response::response_under;
-use store::{channel, link};
+use store::lent::Sound;
 
 // Link `l`'s rows, C, p and delay of each, below the new channel, which is the table's first row.
 #[tactic(auto, using(crate::proofs::Table::places_most))]
-fn put_rows(store: &[u64], l: usize, table: &mut [u64; 3 * Link::MOST_ROWS + 3])
-    requires store_value { sound_of store.now ≡ true }
-    requires l_bound { l < links_of store.now }
+fn put_rows(store: &Sound, l: usize, table: &mut [u64; 3 * Link::MOST_ROWS + 3])
+    requires { l < links_of store.now }
     ensures { table.new
         ≡ table_written store.now l table.old (rows_of store.now l) }
 {
-    for k in 0..link::rows(store, l) {
-        let x = link::row_channel(store, l, k);
-        let j = link::row_place(store, l, k);
+    let link = store.link(l);
+    for k in 0..link.rows() {
+        let x = link.row_channel(k);
+        let j = link.row_place(k);
+        let channel = store.channel(x);
         let at = 3 * k + 3;
-        table[at] = channel::c(store, x);
-        table[at + 1] = channel::p(store, x);
-        table[at + 2] = channel::delay(store, x, j);
+        table[at] = channel.c();
+        table[at + 1] = channel.p();
+        table[at + 2] = channel.delay(j);
     }
 }
 
@@ -39,21 +39,20 @@ fn put_rows(store: &[u64], l: usize, table: &mut [u64; 3 * Link::MOST_ROWS + 3])
 #[inline(never)]
 #[tactic(auto, using(crate::proofs::Steps::link_there, crate::proofs::Table::places_most))]
 pub fn responses(
-    store: &[u64],
+    store: &Sound,
     asked: Channel,
     route: &[u64],
     found: &mut [u64; Route::MOST_HOPS],
 ) -> Option<usize>
-    requires store_value { sound_of store.now ≡ true }
-    requires c_value { in_range_c asked.c ≡ true }
-    requires p_value { in_range_p asked.p ≡ true }
-    requires route_len_bound { length route.now ≤ most_hops }
-    requires route_value { every (exists store.now (from route.now 0)) (length route.now) ≡ true }
-    requires found_value { found.old ≡ replicate 8 0 }
-    ensures value { result ≡ failing (responds store.now asked.c asked.p (from route.now 0)) (length route.now) }
+    requires c_in_range { in_range_c asked.c ≡ true }
+    requires p_in_range { in_range_p asked.p ≡ true }
+    requires few_hops { length route.now ≤ most_hops }
+    requires known { every (exists store.now (along route.now)) (length route.now) ≡ true }
+    requires empty { found.old ≡ replicate 8 0 }
+    ensures value { result ≡ failing (responds store.now asked.c asked.p (along route.now)) (length route.now) }
     ensures found_after { found.new
-        ≡ eight (responses_of store.now asked.c asked.p (from route.now 0))
-        (first_not (responds store.now asked.c asked.p (from route.now 0)) (length route.now)) }
+        ≡ eight (responses_of store.now asked.c asked.p (along route.now))
+        (first_not (responds store.now asked.c asked.p (along route.now)) (length route.now)) }
 {
     let mut table = [0u64; 3 * Link::MOST_ROWS + 3];
     table[0] = asked.c;
@@ -63,7 +62,7 @@ pub fn responses(
         let l = l as usize;
         put_rows(store, l, &mut table);
         // every row after position q has a response below the new channel
-        let mut q = link::rows(store, l);
+        let mut q = store.link(l).rows();
         loop {
             if q > 0 {
                 let own = table[3 * q];

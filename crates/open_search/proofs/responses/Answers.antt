@@ -12,20 +12,20 @@ use Rattle.open_search.proofs.responses.Goals as goal
 use Rattle.open_search.proofs.responses.Goals.{then-q-gt0+in_default, else-q-gt0}
 
 pub search-init : goal.search-init
-search-init c = searching_none _ _ _ _ _ _ c.requires.found_value (record { size = refl; new = refl })
+search-init c = searching_none _ _ _ _ _ _ c.requires.empty (record { size = refl; new = refl })
 
 pub loop-q-init : goal.loop-q-init
 loop-q-init c =
-    let s = sound_is _ c.requires.store_value in
-    let there = link_there c.args.store.now _ _ c.requires.route_value _ c.search-test.true in
+    let s = sound_is _ c.link.ensures.sound in
+    let there = link_there c.args.store.now _ _ c.requires.known _ c.search-test.true in
     let few = rows_most _ s _ there in
     let i = c.search.invariant in
     let t = filled _ _ _ _ _ _ i.table few c.put_rows.ensures in
     record {
       searching = record { passing = i.passing; none = i.none; written = i.written; table = t.headed };
-      turn = record { sound = s; c_in = c.requires.c_value; p_in = c.requires.p_value; link = there; table = t };
-      falling = falling_none _ _ _ c.rows-q.ensures;
-      few = omega (arith, few, c.rows-q.ensures);
+      turn = record { sound = s; c_in = c.requires.c_in_range; p_in = c.requires.p_in_range; link = there; table = t };
+      falling = falling_none _ _ _ (rw c.link.ensures.value at c.rows-q.ensures);
+      few = omega (arith, few, rw c.link.ensures.value at c.rows-q.ensures);
     }
 
 pub response_under-requires : goal.response_under-requires
