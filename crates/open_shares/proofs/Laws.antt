@@ -26,7 +26,6 @@ module _ (w : Store) (q : Request) (e : Early w q) (numbers : List ℕ) where
     delays_placed same =
         let s = sound_is w e.sound in
         record {
-          long = s.long;
           hops_most = e.hops_most;
           p_least = e.good.p_least;
           p_most = e.good.p_most;

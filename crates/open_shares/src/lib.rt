@@ -7,14 +7,14 @@ ghost use Rattle.store.specs.Ranged.{most_reserved};
 ghost use Rattle.kinds.specs.Ranges.{most_buffer, most_hops, most_c, most_p, most_d, most_b};
 ghost use Rattle.store.specs.Layout.{number_at, links_of, buffer_of, rows_of};
 ghost use Rattle.folds.specs.Folds.{every, failing, sum_to};
-ghost use Rattle.store.specs.Route.{from, exists};
+ghost use Rattle.store.specs.Route.{along, exists};
 ghost use Rattle.store.specs.Amounts.{reserved_along};
-ghost use Rattle.store.specs.Sound.{sound_of, row_reserved_of};
+ghost use Rattle.store.specs.Sound.{row_reserved_of};
 ghost use Rattle.open_rules.specs.Shares.{delays as delays_of, taken_of, fits_buffer, eight};
 ghost use Rattle.open_shares.specs.Ranges.{AllUpTo, Places};
 
 use kinds::{Channel, Route};
-use store::link;
+use store::lent::{Lent, Sound};
 
 // S, the sum of the responses along a route.
 #[tactic(auto, using(folds::proofs::Folds::sum_none, folds::proofs::Folds::sum_more))]
@@ -58,7 +58,7 @@ pub fn delays(
 // The packets to be reserved at place `j` of the route.
 #[tactic(auto, using(store::proofs::Laws::Amounts::along_first, store::proofs::Laws::Amounts::along_later))]
 fn reserved_at(
-    store: &[u64],
+    store: &Lent,
     asked: Channel,
     route: &[u64],
     delays: &[u64; Route::MOST_HOPS],
@@ -68,20 +68,20 @@ fn reserved_at(
     requires j_in_bounds { j < length route.now }
     requires c_le_most_c { asked.c ≤ most_c }
     requires b_le_most_b { asked.b ≤ most_b }
-    ensures { result ≡ reserved_along store.now asked.c asked.p asked.b (from route.now 0)
+    ensures { result ≡ reserved_along store.now asked.c asked.p asked.b (along route.now)
         (number_at delays.now) j }
 {
     if j == 0 {
         return asked.b * asked.c;
     }
-    let horizon = link::horizon(store, route[j - 1] as usize);
+    let horizon = store.link(route[j - 1] as usize).horizon();
     store_route::later_reserved(asked.c, asked.p, horizon, delays[j - 1], delays[j])
 }
 
 // The packets to be reserved at each place of the route.
 #[tactic(auto, using(open_rules::proofs::Laws::Eight::eight_none, open_rules::proofs::Laws::Eight::eight_more))]
 pub fn reserved(
-    store: &[u64],
+    store: &Lent,
     asked: Channel,
     route: &[u64],
     delays: &[u64; Route::MOST_HOPS],
@@ -89,7 +89,7 @@ pub fn reserved(
     requires places { Places store.now asked.p route.now delays.now }
     requires c_le_most_c { asked.c ≤ most_c }
     requires b_le_most_b { asked.b ≤ most_b }
-    ensures { result ≡ eight (reserved_along store.now asked.c asked.p asked.b (from route.now 0)
+    ensures { result ≡ eight (reserved_along store.now asked.c asked.p asked.b (along route.now)
         (number_at delays.now)) (length route.now) }
 {
     let mut packets = [0u64; Route::MOST_HOPS];
@@ -100,49 +100,49 @@ pub fn reserved(
 }
 
 // The packets reserved on link `l` for its row `k`.
-fn row_packets(store: &[u64], l: usize, k: usize) -> u64
-    requires store_value { sound_of store.now ≡ true }
-    requires l_bound { l < links_of store.now }
-    requires k_bound { k < rows_of store.now l }
+#[tactic(auto, using(crate::proofs::Rows::on_a_link))]
+fn row_packets(store: &Sound, l: usize, k: usize) -> u64
+    requires on_link { l < links_of store.now }
+    requires in_rows { k < rows_of store.now l }
     ensures value { result ≡ row_reserved_of store.now l k }
     ensures small { result ≤ most_buffer }
 {
-    let x = link::row_channel(store, l, k);
-    let j = link::row_place(store, l, k);
-    store_route::reserved(store, x, j)
+    let link = store.link(l);
+    let x = link.row_channel(k);
+    let j = link.row_place(k);
+    store_route::reserved(&store.channel(x), j)
 }
 
 // The packets reserved on link `l` already.
-#[tactic(auto, using(folds::proofs::Folds::sum_none, folds::proofs::Folds::sum_more))]
-fn taken(store: &[u64], l: usize) -> u64
-    requires store_value { sound_of store.now ≡ true }
-    requires l_bound { l < links_of store.now }
+#[tactic(auto, using(crate::proofs::Rows::on_a_link, folds::proofs::Folds::sum_none, folds::proofs::Folds::sum_more))]
+fn taken(store: &Sound, l: usize) -> u64
+    requires { l < links_of store.now }
     ensures { result ≡ taken_of store.now l }
 {
     let mut sum = 0;
-    for k in 0..link::rows(store, l) {
+    for k in 0..store.link(l).rows() {
         sum += row_packets(store, l, k);
     }
     sum
 }
 
 // Whether link `l`'s buffer holds `packets` more than are reserved on it.
-fn fits(store: &[u64], l: usize, packets: u64) -> bool
-    requires store_value { sound_of store.now ≡ true }
-    requires l_bound { l < links_of store.now }
+#[tactic(auto, using(crate::proofs::Rows::on_a_link))]
+fn fits(store: &Sound, l: usize, packets: u64) -> bool
+    requires on_link { l < links_of store.now }
     requires packets_most { packets ≤ most_reserved }
     ensures { result ≡ leb (taken_of store.now l + packets) (buffer_of store.now l) }
 {
-    taken(store, l) + packets <= link::buffer(store, l)
+    let buffer = store.link(l).buffer();
+    taken(store, l) + packets <= buffer
 }
 
 // 10: the first place whose link's buffer would be exceeded.
-pub fn full_link(store: &[u64], route: &[u64], reserved: &[u64; Route::MOST_HOPS]) -> Option<usize>
-    requires store_value { sound_of store.now ≡ true }
-    requires route_len_bound { length route.now ≤ most_hops }
-    requires route_value { every (exists store.now (from route.now 0)) (length route.now) ≡ true }
+pub fn full_link(store: &Sound, route: &[u64], reserved: &[u64; Route::MOST_HOPS]) -> Option<usize>
+    requires few_hops { length route.now ≤ most_hops }
+    requires known { every (exists store.now (along route.now)) (length route.now) ≡ true }
     requires all_up_to { AllUpTo reserved.now (length route.now) most_reserved }
-    ensures { result ≡ failing (fits_buffer store.now (from route.now 0)
+    ensures { result ≡ failing (fits_buffer store.now (along route.now)
         (number_at reserved.now)) (length route.now) }
 {
     (0..route.len()).find(|&j| !fits(store, route[j] as usize, reserved[j]))
