@@ -7,19 +7,21 @@ ghost use Rattle.store.specs.Layout.{rows_of, route_of, delay_of};
 ghost use Rattle.open_rules.specs.Join.{rows_before, row_put, row_joined};
 ghost use Rattle.open_insert.specs.Rows.{Rows};
 
-use store::{channel, link};
+use store::lent::Lent;
+use store::link;
 
 // How many rows of link `l` stand above a new one with delay `d`.
-fn rows_before(store: &[u64], l: usize, d: u64) -> usize
+fn rows_before(store: &Lent, l: usize, d: u64) -> usize
     requires { Rows store.now l }
     ensures { result ≡ rows_before store.now l d }
 {
-    let rows = link::rows(store, l);
+    let link = store.link(l);
+    let rows = link.rows();
     (0..rows)
         .find(|&k| {
-            let x = link::row_channel(store, l, k);
-            let j = link::row_place(store, l, k);
-            channel::delay(store, x, j) > d
+            let x = link.row_channel(k);
+            let j = link.row_place(k);
+            store.channel(x).delay(j) > d
         })
         .unwrap_or(rows)
 }
@@ -34,8 +36,9 @@ fn put_row(store: &mut [u64], l: usize, at: usize, rows: usize, x: usize, j: usi
     let mut channel = x;
     let mut place = j;
     for k in at..rows {
-        let next_channel = link::row_channel(store, l, k);
-        let next_place = link::row_place(store, l, k);
+        let link = link::Record::new(store, l);
+        let next_channel = link.row_channel(k);
+        let next_place = link.row_place(k);
         link::put_row_channel(store, l, k, channel);
         link::put_row_place(store, l, k, place);
         channel = next_channel;
@@ -54,9 +57,11 @@ pub fn join_row(store: &mut [u64], x: usize, j: usize)
     ensures { store.new ≡ row_joined store.old (route_of store.old x j)
         (delay_of store.old x j) x j }
 {
-    let l = channel::route(store, x, j);
-    let rows = link::rows(store, l);
-    let at = rows_before(store, l, channel::delay(store, x, j));
+    let lent = Lent::new(store);
+    let channel = lent.channel(x);
+    let l = channel.link(j);
+    let rows = lent.link(l).rows();
+    let at = rows_before(&lent, l, channel.delay(j));
     put_row(store, l, at, rows, x, j);
     link::put_rows(store, l, rows + 1);
 }

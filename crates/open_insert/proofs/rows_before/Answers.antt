@@ -10,4 +10,4 @@ returns c =
     let f = no_later c.args.store.now c.args.l c.args.d in
     let found : c.find.result ≡ failing f c.rows-rows.result =
     failing_from_find f c.rows-rows.result _ _ _ c.find.ensures.ran (cc) (λ x b q k. search (rules, tests)) in
-    rw (c.unwrap_or.ensures, found, first_or_end, c.rows-rows.ensures)
+    rw (c.unwrap_or.ensures, found, first_or_end, c.rows-rows.ensures, c.link-link.ensures)
