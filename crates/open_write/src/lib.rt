@@ -4,7 +4,7 @@
 ghost use Rattle.std.specs.Prelude.{◌≡◌, ◌+◌, ◌≤◌, ◌<◌, length};
 ghost use Rattle.kinds.specs.Ranges.{most_channels, most_hops};
 ghost use Rattle.store.specs.Layout.{Long, number_at, route_of, with_channels};
-ghost use Rattle.store.specs.Route.{from};
+ghost use Rattle.store.specs.Route.{along};
 ghost use Rattle.open_rules.specs.Asked.{asking};
 ghost use Rattle.open_rules.specs.Join.{places_written, channel_written, rows_joined};
 ghost use Rattle.open_write.specs.Ready.{Ready, Enterable};
@@ -17,8 +17,8 @@ use store::{channel, head};
 fn put_places(store: &mut [u64], x: usize, route: &[u64], delays: &[u64; Route::MOST_HOPS])
     requires long { Long store.old }
     requires x_lt_most_channels { x < most_channels }
-    requires route_len_bound { length route.now ≤ most_hops }
-    ensures { store.new ≡ places_written store.old x (from route.now 0)
+    requires few_hops { length route.now ≤ most_hops }
+    ensures { store.new ≡ places_written store.old x (along route.now)
         (number_at delays.now) (length route.now) }
 {
     for (j, &l) in route.iter().enumerate() {
@@ -38,7 +38,7 @@ fn put_channel(
 )
     requires long { Long store.old }
     requires x_lt_most_channels { x < most_channels }
-    requires route_len_bound { length route.now ≤ most_hops }
+    requires few_hops { length route.now ≤ most_hops }
     ensures { store.new ≡ channel_written store.old x (asking asked route.now)
         (number_at delays.now) }
 {
