@@ -1,11 +1,11 @@
 -- The checks of an open that hold, one after the other, as `early` comes past them.
 use Prim.Native.Nat.{ℕ, ◌<◌}
 use mathlib.Core.Path.{◌≡◌, refl, sym}
-use mathlib.Core.Bool.{true}
 use mathlib.Core.List.{List}
 use lib.ListN.{take}
 use borrow.Author.Tests.{lt-ltb}
-use Rattle.std.specs.declared.option.Option.TheVariants.{None}
+use Rattle.std.specs.Prelude.{if◌then◌else◌}
+use Rattle.std.specs.declared.option.Option.TheVariants.{None, Some}
 use Rattle.std.specs.declared.result.Result.TheVariants.{Ok}
 use Rattle.kinds.specs.Ranges.{end_slot, most_channels}
 use Rattle.kinds.specs.Checks.{new_channel, new_route}
@@ -21,6 +21,7 @@ use Rattle.checks.specs.Checks.{Check}
 use Rattle.checks.proofs.Laws.{AllHold, one_more}
 use Rattle.open_rules.specs.Request.{Request, hops, link}
 use Rattle.open_rules.specs.Refusal.{early_checks, takes_row}
+use Rattle.open_checks.proofs.Sound.{found_sound, same_store}
 
 abbrev pub request : (c p d b : ℕ) → List ℕ → Request
 request c p d b route = record { c = c; p = p; d = d; b = b; route = route }
@@ -29,9 +30,9 @@ module _ (w : Store) (q : Request) where
   abbrev pub checks : List Check
   checks = early_checks w q
 
-  pub past_2 : {a : Channel} {r : Route} → sound_of w ≡ true → clock_of w < end_slot → Ok a ≡ new_channel q.c q.p q.d q.b
+  pub past_2 : {v : Store} {a : Channel} {r : Route} → Some v ≡ (if sound_of w then Some w else None) → clock_of v < end_slot → Ok a ≡ new_channel q.c q.p q.d q.b
       → Ok r ≡ new_route (hops q) → AllHold (take 4 checks)
-  past_2 s k a r = (s, (lt-ltb _ _ k, (good_channel _ _ _ _ (sym a), (good_route _ (sym r), tt))))
+  past_2 {v} s k a r = (found_sound w v s, (lt-ltb _ _ (rw (same_store w v s) at k), (good_channel _ _ _ _ (sym a), (good_route _ (sym r), tt))))
 
   pub past_3 : AllHold (take 4 checks) → None ≡ failing (exists w (link q)) (hops q) → AllHold (take 5 checks)
   past_3 h e = one_more checks 4 refl h (failing_none _ _ (sym e))
