@@ -4,10 +4,11 @@
 ghost use Rattle.std.specs.Prelude.{◌≡◌, ◌<◌};
 ghost use Rattle.store.specs.Layout.{links_of};
 ghost use Rattle.slot_rules.specs.Pick.{pick_from, pick_of, row_of};
-ghost use Rattle.slot_pick.specs.Picks.{picks_to};
+ghost use Rattle.slot_pick.specs.Picks.{picks_to, Picks};
 ghost use Rattle.slot_pick.specs.Rows.{goes_first, position_of, Timed};
 
 use kinds::Network;
+use std::marker::Model;
 use store::lent::Sound;
 
 // A row that may be picked, with its key (a deadline or a logical time) and its channel.
@@ -99,4 +100,47 @@ pub fn picks(store: &Sound) -> [Option<usize>; Network::MOST_LINKS]
         picked[l] = pick(store, l);
     }
     picked
+}
+
+// A sound store and what its links pick. In a clause it is the numbers of the store.
+#[derive(Drop)]
+pub struct Picked<'a> {
+    numbers: &'a [u64],
+    picks: &'a [Option<usize>; Network::MOST_LINKS],
+}
+
+impl<'a> Model for Picked<'a> {
+    ghost use Rattle.std.specs.Prelude.{List, ℕ};
+    ghost use Rattle.slot_pick.specs.Picks.{Picks};
+
+    ghost Value = { List ℕ };
+
+    ghost view = { λ s. s.numbers.now };
+
+    ghost invariant = { λ s. Picks s.numbers.now s.picks.now };
+}
+
+impl<'a> Picked<'a> {
+    pub fn new(numbers: &'a [u64], picks: &'a [Option<usize>; Network::MOST_LINKS]) -> Picked<'a>
+        requires { Picks numbers.now picks.now }
+        ensures { result ≡ numbers.now }
+    {
+        Picked { numbers, picks }
+    }
+
+    pub fn store(&self) -> Sound<'_>
+        ensures { result ≡ self.now }
+    {
+        Sound::new(self.numbers)
+    }
+
+    // The row of link `l` whose packet it picked, if any is.
+    pub fn pick(&self, l: usize) -> Option<usize>
+        requires { l < links_of self.now }
+        ensures { result ≡ row_of (pick_of self.now l) }
+    {
+        // by a name, since with it what the type says is known, and that bounds `l`
+        let picks = self.picks;
+        picks[l]
+    }
 }
