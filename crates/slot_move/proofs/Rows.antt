@@ -1,10 +1,10 @@
 -- The row k that link l picked: its place can be read, and the packet that goes next there is one of a message.
-use Rattle.std.proofs.Common.{ℕ, zero, suc, ◌-◌, ◌≤◌, ◌<◌, ◌≡◌, true, refl, sym, ◌∙◌, arith, get_or, List}
+use Rattle.std.proofs.Common.{ℕ, zero, suc, ◌-◌, ◌≤◌, ◌<◌, ◌≡◌, true, refl, arith, get_or, List}
 use native.Mathlib.Nat.{mul-le-mul}
 use Rattle.std.specs.declared.option.Option.{Option}
 use Rattle.std.specs.declared.option.Option.TheVariants.{None, Some}
 use Rattle.kinds.specs.Ranges.{most_rows, most_channels, most_hops, most_number}
-use Rattle.store.specs.Layout.{Store, ring, links_of, row_channel_of, row_place_of, messages_of, sent_of, end_of}
+use Rattle.store.specs.Layout.{Store, IsChannel, ring, links_of, row_channel_of, row_place_of, messages_of, sent_of, end_of}
 use Rattle.store.specs.Sound.{sound_of}
 use Rattle.store.proofs.Laws.Sound.{ChannelIs, sound_is}
 use Rattle.slot_rules.specs.Head.{message_of}
@@ -12,30 +12,24 @@ use Rattle.slot_rules.specs.Pick.{pick_of, row_of}
 use Rattle.slot_rules.proofs.Laws.Head.{MessageIs, message_is, entered_most}
 use Rattle.slot_rules.proofs.Laws.Pick.{picked}
 use Rattle.slot_rules.proofs.Laws.Ready.{ready, links_few, row_small, channel_small, place_small}
-use Rattle.slot_pick.specs.Picks.{picks_to}
+use Rattle.slot_pick.specs.Picks.{Picks}
 use Rattle.slot_pick.proofs.Laws.{picks_at}
 use Rattle.slot_keeps.proofs.Leaves.{Leaving, leaving}
 use Rattle.slot_move.specs.Sends.{most_packets}
 
--- what the picks say of link l
-module _ (w : Store) (sound : sound_of w ≡ true) (l : ℕ) (h : l < links_of w) {picks : List (Option ℕ)}
-    (all : picks ≡ picks_to w (links_of w)) (d : Option ℕ) where
-  at : get_or picks l d ≡ row_of (pick_of w l)
-  at = rw all (picks_at w (links_of w) l d h (links_few w sound))
+-- the position of a row picked, and of none
+pub no_row : {p : ℕ} → None ≡ row_of p → p ≡ 0
+no_row {p = zero} e = refl
+no_row {p = suc k} e = absurd cc
 
-  pub no_row : get_or picks l d ≡ None → pick_of w l ≡ 0
-  no_row e = go (pick_of w l) refl
-    where
-      go : (p : ℕ) → pick_of w l ≡ p → p ≡ 0
-      go zero f = refl
-      go (suc k) f = absurd (let z : None ≡ Some k = (sym e ∙ (at ∙ rw f)) in cc)
+pub a_row : {p k : ℕ} → Some k ≡ row_of p → p ≡ suc k
+a_row {p = zero} e = absurd cc
+a_row {p = suc i} e = cc
 
-  pub a_row : {k : ℕ} → get_or picks l d ≡ Some k → pick_of w l ≡ suc k
-  a_row {k} e = go (pick_of w l) refl
-    where
-      go : (p : ℕ) → pick_of w l ≡ p → p ≡ suc k
-      go zero f = absurd (let z : Some k ≡ None = (sym e ∙ (at ∙ rw f)) in cc)
-      go (suc i) f = let z : Some k ≡ Some i = (sym e ∙ (at ∙ rw f)) in cc
+-- what the array of picks says of link l
+pub picks_say : {w : Store} {picks : List (Option ℕ)} → Picks w picks → (l : ℕ) (d : Option ℕ) → l < links_of w
+    → get_or picks l d ≡ row_of (pick_of w l)
+picks_say {w = w} k l d h = rw k.all (picks_at w (links_of w) l d h (links_few w k.sound))
 
 pub pick_few : (w : Store) → sound_of w ≡ true → (l : ℕ) → l < links_of w → pick_of w l ≤ most_rows
 pick_few w sound l h = go (pick_of w l) refl
@@ -53,6 +47,9 @@ module _ (w : Store) (sound : sound_of w ≡ true) (l : ℕ) (h : l < links_of w
 
   pub row_leaves : Leaving w l x j
   row_leaves = leaving (sound_is w sound) l k h e
+
+  pub channel_there : IsChannel w (row_channel_of w l k)
+  channel_there = row_leaves.stands.channel
 
   pub channel_few : row_channel_of w l k < most_channels
   channel_few = channel_small w sound x row_leaves.stands.channel
@@ -82,4 +79,4 @@ module _ (w : Store) (sound : sound_of w ≡ true) (l : ℕ) (h : l < links_of w
   )
 
 -- what reading a picked row, and the packet that goes next there, asks
-pub ruleset row_ready = (ready, pick_few, channel_few, place_few, message_least, message_starts)
+pub ruleset row_ready = (ready, pick_few, channel_there, place_few, message_least, message_starts)
