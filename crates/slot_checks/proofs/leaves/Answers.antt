@@ -7,18 +7,18 @@ use Rattle.slot_checks.proofs.leaves.Goals as goal
 
 pub returns-in_default : goal.returns-in_default
 returns-in_default c =
-    let r = c.requires in
-    let h : c.route-l.result < links_of c.args.store.now = rw c.route-l.ensures (place_has_link _ r.store_value _ _ r.channel r.j_bound) in
-    leaves_none _ _ _ _ c.route-l.ensures (no_row _ r.store_value _ h r.picks_value _ c.in_default.is)
+    let here = rw c.store-store.ensures at (rw c.channel.ensures.value at c.link-l.ensures) in
+    leaves_none _ _ _ _ here (no_row c.in_default.ensures)
 
-pub row_channel-requires-clause-k_lt_most_rows : goal.row_channel-requires-clause-k_lt_most_rows
-row_channel-requires-clause-k_lt_most_rows c =
-    let r = c.requires in
-    let h : c.route-l.result < links_of c.args.store.now = rw c.route-l.ensures (place_has_link _ r.store_value _ _ r.channel r.j_bound) in
-    omega (arith, pick_few _ r.store_value _ h, a_row _ r.store_value _ h r.picks_value _ c.in-Some.is)
+pub row_channel-requires : goal.row_channel-requires
+row_channel-requires c =
+    let here = rw c.store-store.ensures at (rw c.channel.ensures.value at c.link-l.ensures) in
+    let s = rw c.store-store.ensures at c.channel.ensures.sound in
+    let h : c.link-l.result < links_of c.args.picked.now = rw here (place_has_link _ s _ _ c.requires.channel c.requires.on_route) in
+    omega (arith, pick_few _ s _ h, a_row c.in-Some.ensures)
 
 pub returns : goal.returns
 returns c =
-    let r = c.requires in
-    let h : c.route-l.result < links_of c.args.store.now = rw c.route-l.ensures (place_has_link _ r.store_value _ _ r.channel r.j_bound) in
-    leaves_row _ _ _ _ c.route-l.ensures _ _ (a_row _ r.store_value _ h r.picks_value _ c.in-Some.is) c.row_channel.ensures
+    let here = rw c.store-store.ensures at (rw c.channel.ensures.value at c.link-l.ensures) in
+    let row = rw c.store-store.ensures at (rw c.link.ensures.value at c.row_channel.ensures) in
+    leaves_row _ _ _ _ here _ _ (a_row c.in-Some.ensures) row
