@@ -9,7 +9,7 @@ ghost use Rattle.script_tick.specs.Tick.{Goes, tick_out, tick_store, rest_out, r
 
 use kinds::Network;
 use script_listing::{BUFFER, LAST_FOR_SLOT};
-use store::head;
+use store::lent::Lent;
 
 // Where the listing goes on in the buffer, and how many slots are left.
 #[derive(Drop)]
@@ -76,7 +76,7 @@ pub fn tick(
     while end <= LAST_FOR_SLOT {
         let over = left == 0;
         if over {
-            let last = script_listing::line(out, end, b"slot", &[head::clock(store)]);
+            let last = script_listing::line(out, end, b"slot", &[Lent::new(store).clock()]);
             return Ticked {
                 at: last,
                 left: None,
