@@ -1,29 +1,19 @@
 -- From the checks to the answer and the store after it.
 use Prim.Native.Nat.{ℕ}
-use mathlib.Core.Path.{◌≡◌, refl, sym, ◌∙◌}
-use mathlib.Core.Bool.{true, false}
+use mathlib.Core.Path.{◌≡◌, refl, sym, ap, ◌∙◌}
+use mathlib.Core.Bool.{false}
 use mathlib.Core.List.{List, ◌∷◌}
-use native.Mathlib.Omega.{arith}
 use lib.ListN.{take, drop}
-use Rattle.std.specs.Result.{is_ok}
 use Rattle.store.specs.Layout.{Store, channels_of}
 use Rattle.checks.specs.Checks.{Check, first_failed}
 use Rattle.checks.proofs.Laws.{AllHold, failed_append, all_passed, fails_after, refused_as}
 use Rattle.kinds.specs.declared.Refusal.{Refusal}
 use Rattle.std.specs.declared.result.Result.{Result}
 use Rattle.std.specs.declared.result.Result.TheVariants.{Ok, Err}
+use Rattle.open_rules.specs.declared.Opening.{Opening}
 use Rattle.open_rules.specs.Request.{Request}
 use Rattle.open_rules.specs.Refusal.{early_checks, late_checks, opened}
 use Rattle.open_rules.specs.Open.{refusal, answer_on, open_outcome, open_answer, open_store}
-
--- what `is_ok` says of an outcome
-pub yes_to : {o r : Result ℕ Refusal} → o ≡ r → is_ok o ≡ true → (x : ℕ) × (r ≡ Ok x)
-yes_to {o = Ok x} e h = (x, sym e)
-yes_to {o = Err why} e h = absurd (let z : ◌≡◌ {A = ℕ} 0 1 = cc in omega arith)
-
-pub no_to : {o r : Result ℕ Refusal} → o ≡ r → is_ok o ≡ false → (why : Refusal) × (r ≡ Err why)
-no_to {o = Ok x} e h = absurd (let z : ◌≡◌ {A = ℕ} 0 1 = cc in omega arith)
-no_to {o = Err why} e h = (why, sym e)
 
 module _ (w : Store) (q : Request) where
   -- the answer has the outcome
@@ -34,6 +24,9 @@ module _ (w : Store) (q : Request) where
       go : (o : Result ℕ Refusal) → open_outcome w q ≡ o → (open_answer w q).outcome ≡ open_outcome w q
       go (Ok x) e = rw (e, open_answer)
       go (Err why) e = rw (e, open_answer)
+
+  pub outcome_of : {a : Opening} {o : Result ℕ Refusal} → a ≡ open_answer w q → a.outcome ≡ o → open_outcome w q ≡ o
+  outcome_of e f = sym outcome_is ∙ sym (ap (λ a. a.outcome) e) ∙ f
 
   -- a refusal
   module _ {why : Refusal} (e : open_outcome w q ≡ Err why) where

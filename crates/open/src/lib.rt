@@ -7,8 +7,9 @@ ghost use Rattle.open_rules.specs.Asked.{asking};
 ghost use Rattle.open_rules.specs.Open.{refusal, open_answer, open_store};
 ghost use Rattle.open.specs.Passed.{Passed};
 
-use kinds::{Refusal, Route};
+use kinds::{Channel, Refusal, Route};
 use open_rules::Opening;
+use store::lent::{Lent, Sound};
 
 // A refusal: 0 beside it. Inlined, each refusal would have numbers of its own on the stack of an open.
 #[inline(never)]
@@ -30,8 +31,9 @@ fn late(store: &[u64], passed: open_checks::Passed, route: &[u64]) -> Opening
 {
     let asked = passed.asked;
     let way = passed.way;
+    let sound = Sound::new(store);
     let mut responses = [0u64; Route::MOST_HOPS];
-    if let Some(j) = open_search::responses(store, asked, route, &mut responses) {
+    if let Some(j) = open_search::responses(&sound, asked, route, &mut responses) {
         return refused(Refusal::NoResponse(j as u64));
     }
     let sum = open_shares::total(&responses, way);
@@ -39,8 +41,8 @@ fn late(store: &[u64], passed: open_checks::Passed, route: &[u64]) -> Opening
         return refused(Refusal::OverD);
     }
     let delays = open_shares::delays(asked, way, sum, &responses);
-    let reserved = open_shares::reserved(store, asked, route, &delays);
-    if let Some(j) = open_shares::full_link(store, route, &reserved) {
+    let reserved = open_shares::reserved(&Lent::new(store), asked, route, &delays);
+    if let Some(j) = open_shares::full_link(&sound, route, &reserved) {
         return refused(Refusal::BufferFull(j as u64));
     }
     Opening {
@@ -61,27 +63,16 @@ pub fn answer(store: &[u64], c: u64, p: u64, d: u64, b: u64, route: &[u64]) -> O
     }
 }
 
-// The same, and a yes is written.
-fn granted(store: &mut [u64], passed: open_checks::Passed, route: &[u64]) -> Opening
-    requires { Passed store.old passed route.now }
-    ensures value { result ≡ open_answer store.old (asking passed.asked route.now) }
-    ensures store_after { store.new ≡ open_store store.old (asking passed.asked route.now) }
-{
-    let opening = late(store, passed, route);
-    if opening.outcome.is_ok() {
-        open_write::enter(store, passed.channel, passed.asked, route, &opening.delays);
-    }
-    opening
-}
-
 // The public call: opens a channel, or refuses and leaves the store alone.
 pub fn open(store: &mut [u64], c: u64, p: u64, d: u64, b: u64, route: &[u64]) -> Opening
     ensures value { result ≡ open_answer store.old (record { c = c; p = p; d = d; b = b; route = route.now }) }
     ensures store_after { store.new ≡ open_store store.old
         (record { c = c; p = p; d = d; b = b; route = route.now }) }
 {
-    match open_checks::early(store, c, p, d, b, route) {
-        Ok(passed) => granted(store, passed, route),
-        Err(why) => refused(why),
+    let opening = answer(store, c, p, d, b, route);
+    if let Ok(channel) = opening.outcome {
+        let asked = Channel { c, p, d, b };
+        open_write::enter(store, channel as usize, asked, route, &opening.delays);
     }
+    opening
 }

@@ -14,6 +14,9 @@ use Rattle.open.proofs.Steps.{delays_at, delays_are, reserved_are, reserved_at, 
 use Rattle.open.proofs.Laws.{all_late}
 use Rattle.open.proofs.late.Goals as goal
 
+pub new-sound-requires : goal.new-sound-requires
+new-sound-requires c = (accepted_all Err _ _ _ (refused_accepted _) c.requires.early).0
+
 pub responses-requires : goal.responses-requires
 responses-requires c =
     let w = c.args.store.now in
@@ -22,12 +25,11 @@ responses-requires c =
     let one = (and-eq-true_iff (in_range_c q.c) _).0 early.1.1.0 in
     let two = (and-eq-true_iff (in_range_p q.p) _).0 one.1 in
     record {
-      store_value = early.0;
-      c_value = one.0;
-      p_value = two.0;
-      route_len_bound = (early_is w q early).hops_most;
-      route_value = early.1.1.1.1.0;
-      found_value = search rules;
+      c_in_range = one.0;
+      p_in_range = two.0;
+      few_hops = (early_is w q early).hops_most;
+      known = rw c.new-sound.ensures early.1.1.1.1.0;
+      empty = search rules;
     }
 
 pub returns-in-Some : goal.returns-in-Some
@@ -35,7 +37,7 @@ returns-in-Some c =
     let w = c.args.store.now in
     let q = asking c.args.passed.asked c.args.route.now in
     let early = accepted_all Err (early_checks w q) _ _ (refused_accepted _) c.requires.early in
-    c.refused.ensures ∙ answer_refused w q (refused_8 w q early c.in-Some.ensures.value)
+    c.refused.ensures ∙ answer_refused w q (refused_8 w q early (rw c.new-sound.ensures at c.in-Some.ensures.value))
 
 pub total-sum-requires : goal.total-sum-requires
 total-sum-requires c =
@@ -43,7 +45,7 @@ total-sum-requires c =
     let q = asking c.args.passed.asked c.args.route.now in
     let early = accepted_all Err (early_checks w q) _ _ (refused_accepted _) c.requires.early in
     let rs = c.responses.new.found in
-    let a = answered w q rs early c.in_default.ensures.value c.responses.ensures.found_after in
+    let a = answered w q rs early (rw c.new-sound.ensures at c.in_default.ensures.value) (rw c.new-sound.ensures at c.responses.ensures.found_after) in
     let e = facts w q rs a in
     let r = answers w q rs a in
     record {
@@ -57,7 +59,7 @@ returns-then-sum-asked c =
     let q = asking c.args.passed.asked c.args.route.now in
     let early = accepted_all Err (early_checks w q) _ _ (refused_accepted _) c.requires.early in
     let rs = c.responses.new.found in
-    let a = answered w q rs early c.in_default.ensures.value c.responses.ensures.found_after in
+    let a = answered w q rs early (rw c.new-sound.ensures at c.in_default.ensures.value) (rw c.new-sound.ensures at c.responses.ensures.found_after) in
     let total = rw c.requires.hops_are at c.total-sum.ensures in
     c.refused-then-sum-asked.ensures ∙ answer_refused w q (refused_9 w q rs a _ total c.if-sum-asked.true)
 
@@ -67,7 +69,7 @@ delays-delays-requires c =
     let q = asking c.args.passed.asked c.args.route.now in
     let early = accepted_all Err (early_checks w q) _ _ (refused_accepted _) c.requires.early in
     let rs = c.responses.new.found in
-    let a = answered w q rs early c.in_default.ensures.value c.responses.ensures.found_after in
+    let a = answered w q rs early (rw c.new-sound.ensures at c.in_default.ensures.value) (rw c.new-sound.ensures at c.responses.ensures.found_after) in
     let e = facts w q rs a in
     let r = answers w q rs a in
     let total = rw c.requires.hops_are at c.total-sum.ensures in
@@ -87,13 +89,13 @@ reserved-reserved-requires c =
     let q = asking c.args.passed.asked c.args.route.now in
     let early = accepted_all Err (early_checks w q) _ _ (refused_accepted _) c.requires.early in
     let rs = c.responses.new.found in
-    let a = answered w q rs early c.in_default.ensures.value c.responses.ensures.found_after in
+    let a = answered w q rs early (rw c.new-sound.ensures at c.in_default.ensures.value) (rw c.new-sound.ensures at c.responses.ensures.found_after) in
     let e = facts w q rs a in
     let r = answers w q rs a in
     let ds = c.delays-delays.result in
     let given = rw c.requires.hops_are at c.delays-delays.ensures in
     record {
-      places = delays_placed w q e ds r (delays_at w q rs a ds given);
+      places = rw c.new.ensures (delays_placed w q e ds r (delays_at w q rs a ds given));
       c_le_most_c = e.good.c_most;
       b_le_most_b = e.good.b_most;
     }
@@ -104,16 +106,15 @@ full_link-requires c =
     let q = asking c.args.passed.asked c.args.route.now in
     let early = accepted_all Err (early_checks w q) _ _ (refused_accepted _) c.requires.early in
     let rs = c.responses.new.found in
-    let a = answered w q rs early c.in_default.ensures.value c.responses.ensures.found_after in
+    let a = answered w q rs early (rw c.new-sound.ensures at c.in_default.ensures.value) (rw c.new-sound.ensures at c.responses.ensures.found_after) in
     let e = facts w q rs a in
     let ds = c.delays-delays.result in
     let given = rw c.requires.hops_are at c.delays-delays.ensures in
     let ss = c.reserved-reserved.result in
-    let kept = c.reserved-reserved.ensures in
+    let kept = rw c.new.ensures at c.reserved-reserved.ensures in
     record {
-      store_value = early.0;
-      route_len_bound = e.hops_most;
-      route_value = early.1.1.1.1.0;
+      few_hops = e.hops_most;
+      known = rw c.new-sound.ensures early.1.1.1.1.0;
       all_up_to = reserved_ranged w q e ss (reserved_at w q rs a ds given ss kept);
     }
 
@@ -123,15 +124,15 @@ returns-in-Some-full_link c =
     let q = asking c.args.passed.asked c.args.route.now in
     let early = accepted_all Err (early_checks w q) _ _ (refused_accepted _) c.requires.early in
     let rs = c.responses.new.found in
-    let a = answered w q rs early c.in_default.ensures.value c.responses.ensures.found_after in
+    let a = answered w q rs early (rw c.new-sound.ensures at c.in_default.ensures.value) (rw c.new-sound.ensures at c.responses.ensures.found_after) in
     let total = rw c.requires.hops_are at c.total-sum.ensures in
     let ds = c.delays-delays.result in
     let given = rw c.requires.hops_are at c.delays-delays.ensures in
     let ss = c.reserved-reserved.result in
-    let kept = c.reserved-reserved.ensures in
+    let kept = rw c.new.ensures at c.reserved-reserved.ensures in
     let nine = past_9 w q rs a _ total c.if-sum-asked.false in
     c.refused-in-Some-full_link.ensures
-    ∙ answer_refused w q (refused_10 w q rs a ds given ss kept nine c.in-Some-full_link.ensures)
+    ∙ answer_refused w q (refused_10 w q rs a ds given ss kept nine (rw c.new-sound.ensures at c.in-Some-full_link.ensures))
 
 pub returns : goal.returns
 returns c =
@@ -139,13 +140,13 @@ returns c =
     let q = asking c.args.passed.asked c.args.route.now in
     let early = accepted_all Err (early_checks w q) _ _ (refused_accepted _) c.requires.early in
     let rs = c.responses.new.found in
-    let a = answered w q rs early c.in_default.ensures.value c.responses.ensures.found_after in
+    let a = answered w q rs early (rw c.new-sound.ensures at c.in_default.ensures.value) (rw c.new-sound.ensures at c.responses.ensures.found_after) in
     let total = rw c.requires.hops_are at c.total-sum.ensures in
     let ds = c.delays-delays.result in
     let given = rw c.requires.hops_are at c.delays-delays.ensures in
     let ss = c.reserved-reserved.result in
-    let kept = c.reserved-reserved.ensures in
+    let kept = rw c.new.ensures at c.reserved-reserved.ensures in
     let nine = past_9 w q rs a _ total c.if-sum-asked.false in
-    let late = past_10 w q rs a ds given ss kept nine c.in_default-full_link.ensures in
+    let late = past_10 w q rs a ds given ss kept nine (rw c.new-sound.ensures at c.in_default-full_link.ensures) in
     accepted_is w q c.requires.number (all_accepted w q early (all_late w q early late)) a.are (delays_are w q rs a ds given)
     (reserved_are w q rs a ds given ss kept)

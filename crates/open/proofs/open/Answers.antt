@@ -1,26 +1,26 @@
 use Rattle.std.proofs.Common.{◌∙◌, ap}
-use Rattle.open_rules.specs.Open.{open_answer, open_store}
-use Rattle.open.proofs.Outcome.{answer_refused, store_refused}
-use Rattle.open.proofs.Early.{request, refused_early, passed_asks, passed_on}
+use Rattle.open_write.proofs.Laws.{early_enterable}
+use Rattle.open.proofs.Outcome.{outcome_of, store_refused}
+use Rattle.open.proofs.Early.{request}
+use Rattle.open.proofs.Laws.{accepted_number, accepted_early, accepted_written}
 use Rattle.open.proofs.open.Goals as goal
 
-pub granted-requires : goal.granted-requires
-granted-requires c =
-    passed_on c.args.store.now (request c.args.c c.args.p c.args.d c.args.b c.args.route.now) c.in-Ok.ensures
-
-pub returns-in-Ok : goal.returns-in-Ok
-returns-in-Ok c =
+pub enter-requires : goal.enter-requires
+enter-requires c =
     let w = c.args.store.now in
     let q = request c.args.c c.args.p c.args.d c.args.b c.args.route.now in
-    let asks = passed_asks w q c.in-Ok.ensures in
-    record {
-      value = c.granted.ensures.value ∙ ap (open_answer w) asks;
-      store_after = c.granted.ensures.store_after ∙ ap (open_store w) asks;
-    }
+    let a = outcome_of w q c.answer-opening.ensures c.in-Ok.is in
+    rw (accepted_number w q _ a) (early_enterable w q (accepted_early w q _ a))
 
-pub returns-in-Err : goal.returns-in-Err
-returns-in-Err c =
+pub returns-in-Ok-clause-store_after : goal.returns-in-Ok-clause-store_after
+returns-in-Ok-clause-store_after c =
     let w = c.args.store.now in
     let q = request c.args.c c.args.p c.args.d c.args.b c.args.route.now in
-    let no = refused_early w q c.in-Err.ensures in
-    record { value = c.refused.ensures ∙ answer_refused w q no; store_after = store_refused w q no }
+    let a = outcome_of w q c.answer-opening.ensures c.in-Ok.is in
+    c.enter.ensures ∙ accepted_written w q _ a _ (ap (λ o. o.delays) c.answer-opening.ensures)
+
+pub returns-in_default-clause-store_after : goal.returns-in_default-clause-store_after
+returns-in_default-clause-store_after c =
+    let w = c.args.store.now in
+    let q = request c.args.c c.args.p c.args.d c.args.b c.args.route.now in
+    store_refused w q (outcome_of w q c.answer-opening.ensures c.in_default.is)
