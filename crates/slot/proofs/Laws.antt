@@ -14,7 +14,7 @@ use Rattle.store.specs.Sound.{sound_of}
 use Rattle.checks.proofs.Laws.{AllHold, accepted_all, all_passed, refused_one, refused_as}
 use Rattle.slot_rules.specs.Slot.{Send, numbers, slot_sends, slot_checks, slot_turn, slot_sent, slot_store, slot_out}
 use Rattle.slot_rules.proofs.Laws.Sends.{numbers_length, sends_most, written_none}
-use Rattle.slot_pick.specs.Picks.{picks_to}
+use Rattle.slot_pick.specs.Picks.{picks_to, Picks}
 use Rattle.slot_checks.specs.Turn.{turn_picks}
 
 -- "slot 17, 14, 15"
@@ -69,8 +69,11 @@ module _ (w : Store) (size : ℕ) where
     unfolding slot_turn
     turn_ran = all_passed Err (slot_checks w size) (Ok tt) passed
 
-    pub turn_has : picks ≡ picks_to w (links_of w)
-    turn_has = let f = all_passed Err (slot_checks w size) (Ok (picks_to w (links_of w))) passed in cc
+    pub turn_has : Picks w picks
+    turn_has = record {
+      sound = ran_sound turn_ran;
+      all = let f = all_passed Err (slot_checks w size) (Ok (picks_to w (links_of w))) passed in cc;
+    }
 
   -- either way the sends have room
   pub sent_fits : 5 * length (slot_sent w size) ≤ size

@@ -5,6 +5,8 @@
 ghost use Rattle.std.specs.Prelude.{◌≡◌, length};
 ghost use Rattle.slot_rules.specs.Slot.{numbers, slot_number, slot_place, slot_sent, slot_store, slot_out};
 
+use slot_pick::Picked;
+
 // Runs a slot, or refuses and leaves the store and the output alone: how many packets were sent. The sends stand at the front of
 // `out`, five numbers each; `number` and `place` are those of the refusal, 0 and 0 if the slot ran.
 pub fn run(store: &mut [u64], out: &mut [u64], number: &mut u64, place: &mut u64) -> usize
@@ -18,7 +20,7 @@ pub fn run(store: &mut [u64], out: &mut [u64], number: &mut u64, place: &mut u64
         Ok(picks) => {
             *number = 0;
             *place = 0;
-            let sends = slot_move::report(store, out, &picks);
+            let sends = slot_move::report(&Picked::new(store, &picks), out);
             slot_move::move_on(store, &picks);
             sends
         }

@@ -1,33 +1,27 @@
 use Rattle.std.proofs.Common.{sym}
 use Rattle.slot_rules.proofs.Laws.Sends.{written_none}
-use Rattle.slot.proofs.Laws.{ran_sound, ran_before_end, ran_room, turn_ran, turn_has, turn_refused}
+use Rattle.slot.proofs.Laws.{ran_before_end, ran_room, turn_ran, turn_has, turn_refused}
 use Rattle.slot.proofs.run.Goals as goal
 
+pub new-requires : goal.new-requires
+new-requires c = turn_has _ _ c.in-Ok.ensures
+
 pub report-sends-requires : goal.report-sends-requires
-report-sends-requires c =
-    let t = turn_ran _ _ c.in-Ok.ensures in
-    record {
-      store_value = ran_sound _ _ t;
-      picks_value = turn_has _ _ c.in-Ok.ensures;
-      store_in_bounds = ran_room _ _ t;
-    }
+report-sends-requires c = rw c.new.ensures (ran_room _ _ (turn_ran _ _ c.in-Ok.ensures))
 
 pub move_on-requires : goal.move_on-requires
-move_on-requires c =
-    let t = turn_ran _ _ c.in-Ok.ensures in
-    record {
-      store_value = ran_sound _ _ t;
-      picks_value = turn_has _ _ c.in-Ok.ensures;
-      store_bound = ran_before_end _ _ t;
-    }
+move_on-requires c = record {
+  picks = turn_has _ _ c.in-Ok.ensures;
+  before_end = ran_before_end _ _ (turn_ran _ _ c.in-Ok.ensures);
+}
 
 pub returns-in-Ok : goal.returns-in-Ok
 returns-in-Ok c =
     let t = turn_ran _ _ c.in-Ok.ensures in
     record {
-      value = rw (t, c.report-sends.ensures.value);
+      value = rw (t, rw c.new.ensures at c.report-sends.ensures.value);
       store_after = rw (t, c.move_on.ensures);
-      out_after = rw (t, c.report-sends.ensures.out_after);
+      out_after = rw (t, rw c.new.ensures at c.report-sends.ensures.out_after);
       number_after = rw t;
       place_after = rw t;
     }
