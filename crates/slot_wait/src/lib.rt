@@ -1,31 +1,31 @@
 // Long waits: how many slots from now no link can send in, and the clock moved on over them.
 #![tactic(auto)]
 
-ghost use Rattle.std.specs.Prelude.{◌≡◌, true, ◌<◌};
+ghost use Rattle.std.specs.Prelude.{◌≡◌, ◌<◌};
 ghost use Rattle.store.specs.Layout.{links_of};
-ghost use Rattle.store.specs.Sound.{sound_of};
 ghost use Rattle.slot_rules.specs.Idle.{idle_answer, skip_answer, skip_store};
 ghost use Rattle.slot_wait.specs.Least.{least_on};
 
 use kinds::{Refusal, Slot};
-use store::{channel, head, link};
+use store::head;
+use store::lent::{Lent, Sound};
 
 // The smaller of `most` and how long link `l` has to wait.
 #[tactic(auto, using(slot_rules::proofs::Laws::Ready::ready, crate::proofs::Least::least_none))]
-fn wait_on(store: &[u64], l: usize, most: u64) -> u64
-    requires store_value { sound_of store.now ≡ true }
-    requires l_bound { l < links_of store.now }
+fn wait_on(store: &Sound, l: usize, most: u64) -> u64
+    requires { l < links_of store.now }
     ensures { result ≡ least_on store.now l most }
 {
-    let rows = link::rows(store, l);
-    let reach = head::clock(store) + link::horizon(store, l);
+    let link = store.link(l);
+    let reach = store.clock() + link.horizon();
     let mut least = most;
-    for k in 0..rows {
-        let x = link::row_channel(store, l, k);
-        let j = link::row_place(store, l, k);
-        if channel::sent(store, x, j) < store_route::entered(store, x, j) {
+    for k in 0..link.rows() {
+        let x = link.row_channel(k);
+        let j = link.row_place(k);
+        let channel = store.channel(x);
+        if channel.sent(j) < store_route::entered(&channel, j) {
             // 0 if that is past
-            let wait = slot_packet::logical(store, x, j).saturating_sub(reach);
+            let wait = slot_packet::logical(&channel, j).saturating_sub(reach);
             least = least.min(wait);
         }
     }
@@ -38,17 +38,15 @@ fn wait_on(store: &[u64], l: usize, most: u64) -> u64
 pub fn idle(store: &[u64]) -> Result<u64, Refusal>
     ensures { result ≡ idle_answer store.now }
 {
-    if !sound::is_sound(store) {
-        return Err(Refusal::NotSound);
-    }
-    let clock = head::clock(store);
+    let sound = sound::check(store).ok_or(Refusal::NotSound)?;
+    let clock = sound.clock();
     let ended = clock >= Slot::END;
     if ended {
         return Err(Refusal::EndSlot);
     }
     let mut least = Slot::END - clock;
-    for l in 0..head::links(store) {
-        least = wait_on(store, l, least);
+    for l in 0..sound.links() {
+        least = wait_on(&sound, l, least);
     }
     Ok(least)
 }
@@ -60,7 +58,7 @@ pub fn skip(store: &mut [u64], n: u64) -> Result<u64, Refusal>
 {
     let most = idle(store)?;
     let slots = n.min(most);
-    let clock = head::clock(store);
+    let clock = Lent::new(store).clock();
     head::put_clock(store, clock + slots);
     Ok(slots)
 }

@@ -11,12 +11,12 @@ returns-in_err-most c =
     let p = err_from_is_err_and c.from_residual.result c.from_residual.ensures.1 in
     record { value = rw (p.1, p.2, r); store_after = sym (skip_stays _ _ r) }
 
-pub clock-clock-requires : goal.clock-clock-requires
-clock-clock-requires c = idle_long _ (sym c.in_ok-most.ensures)
+pub new-requires : goal.new-requires
+new-requires c = idle_long _ (sym c.in_ok-most.ensures)
 
 pub overflow_add-clock : goal.overflow_add-clock
 overflow_add-clock c =
-    omega (arith, c.clock-clock.ensures, c.min-slots.ensures, skip_fits _ (sym c.in_ok-most.ensures) c.args.n)
+    omega (arith, rw c.new.ensures at c.clock-clock.ensures, c.min-slots.ensures, skip_fits _ (sym c.in_ok-most.ensures) c.args.n)
 
 pub put_clock-requires : goal.put_clock-requires
 put_clock-requires c = idle_long _ (sym c.in_ok-most.ensures)
@@ -25,4 +25,4 @@ pub returns : goal.returns
 returns c =
     let r : skip_answer c.args.store.now c.args.n ≡ Ok c.min-slots.result =
     rw c.min-slots.ensures (skip_some _ (sym c.in_ok-most.ensures) c.args.n) in
-    record { value = sym r; store_after = rw (skip_clock _ _ r, c.put_clock.ensures, c.clock-clock.ensures) }
+    record { value = sym r; store_after = rw (skip_clock _ _ r, c.put_clock.ensures, rw c.new.ensures at c.clock-clock.ensures) }

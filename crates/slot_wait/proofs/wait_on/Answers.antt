@@ -11,17 +11,17 @@ use Rattle.slot_wait.proofs.wait_on.Goals.{then-sent-entered, else-sent-entered}
 pub loop-k-preserved : goal.loop-k-preserved
 loop-k-preserved c =
     let r : Row c.args.store.now c.args.l c.loop-k.k c.row_channel-x.result c.row_place-j.result = record {
-      sound = c.requires.store_value;
-      there = c.requires.l_bound;
-      below = omega arith;
-      its_channel = c.row_channel-x.ensures;
-      its_place = c.row_place-j.ensures;
+      sound = c.link-link.ensures.sound;
+      there = c.requires;
+      below = grind arith;
+      its_channel = rw c.link-link.ensures.value at c.row_channel-x.ensures;
+      its_place = rw c.link-link.ensures.value at c.row_place-j.ensures;
     } in
-    let x = c.sent.ensures in
-    let y = c.entered.ensures in
+    let x = rw c.channel-channel.ensures.value at c.sent.ensures in
+    let y = rw c.channel-channel.ensures.value at c.entered.ensures in
     elim c.if-sent-entered.branch [
       | then-sent-entered w ↦
-          let e = row_wait r c.clock.ensures c.horizon.ensures w.logical.ensures w.saturating_sub-wait.ensures in
+          let e = row_wait r c.clock.ensures.value (rw c.link-link.ensures.value at c.horizon.ensures) (rw c.channel-channel.ensures.value at w.logical.ensures) w.saturating_sub-wait.ensures in
           omega (
             arith,
             w.least-is,
