@@ -1,4 +1,3 @@
-mod Facts
-mod Steps
+pub mod Facts
 pub mod Outcome
 pub mod Laws

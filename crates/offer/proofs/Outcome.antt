@@ -1,17 +1,17 @@
 -- From the checks to the answer and the store after it.
 use Prim.Native.Nat.{ℕ, ◌≤◌, ◌<◌}
 use mathlib.Core.Path.{◌≡◌}
-use mathlib.Core.Bool.{true, false}
-use mathlib.Core.List.{List, ◌∷◌}
-use lib.ListN.{take, drop}
+use mathlib.Core.Bool.{true}
+use lib.ListN.{take}
 use borrow.Author.Tests.{ltb-true}
-use Rattle.kinds.specs.Ranges.{end_slot}
+use Rattle.kinds.specs.Ranges.{end_slot, within}
 use Rattle.kinds.proofs.Laws.{within_true}
 use Rattle.store.specs.Layout.{Store, channels_of, clock_of, c_of, messages_of, IsChannel}
 use Rattle.store.specs.Sound.{sound_of}
-use Rattle.checks.specs.Checks.{Check}
-use Rattle.checks.proofs.Laws.{AllHold, all_passed, fails_after}
-use Rattle.offer_rules.specs.declared.Offered.TheVariants.{Accepted, Refused}
+use Rattle.checks.proofs.Laws.{AllHold, all_passed}
+use Rattle.std.specs.declared.result.Result.TheVariants.{Ok, Err}
+use Rattle.kinds.specs.declared.Refusal.{Refusal}
+use Rattle.offer_rules.specs.declared.Accepted.{Accepted}
 use Rattle.offer_rules.specs.Offer.{offer_time, in_burst, offered, offer_checks, offer_answer, offer_store}
 use Rattle.offer_keeps.specs.Room.{takes_message}
 use Rattle.offer_keeps.proofs.Sound.{offered_sound}
@@ -39,22 +39,21 @@ module _ (w : Store) (x packets : ℕ) where
       }
 
   -- the last check, as the code looks at it
-  pub room_decides : Passed w x packets → sound_of (offered w x packets) ≡ takes_message w x packets
-  room_decides p = offered_sound w x packets p.sound p.running p.known p.least p.most p.burst
+  pub room_is : sound_of w ≡ true → clock_of w < end_slot → IsChannel w x → within 1 (c_of w x) packets ≡ true → in_burst w x ≡ true
+      → sound_of (offered w x packets) ≡ takes_message w x packets
+  room_is e r k s b =
+      let size = within_true 1 (c_of w x) packets s in
+      offered_sound w x packets e r k size.0 size.1 b
 
-  pub answer_refused : {y : Check} {rest : List Check} (k : ℕ) → drop k (offer_checks w x packets) ≡ y ∷ rest
-      → AllHold (take k (offer_checks w x packets)) → y.holds ≡ false → Refused y.number y.place ≡ offer_answer w x packets
+  pub answer_accepted : AllHold (offer_checks w x packets)
+      → offer_answer w x packets ≡ Ok (record { message = messages_of w x; time = offer_time w x })
   unfolding offer_answer
-  answer_refused k e h f = fails_after Refused (offer_checks w x packets) k _ e h f
+  answer_accepted h = all_passed Err (offer_checks w x packets) _ h
 
-  pub answer_accepted : AllHold (offer_checks w x packets) → offer_answer w x packets ≡ Accepted (messages_of w x) (offer_time w x)
-  unfolding offer_answer
-  answer_accepted h = all_passed Refused (offer_checks w x packets) _ h
-
-  pub store_refused : {number place : ℕ} → offer_answer w x packets ≡ Refused number place → offer_store w x packets ≡ w
+  pub store_refused : {refusal : Refusal} → offer_answer w x packets ≡ Err refusal → offer_store w x packets ≡ w
   unfolding offer_store
   store_refused e = rw (e, offer_store)
 
-  pub store_accepted : {n time : ℕ} → offer_answer w x packets ≡ Accepted n time → offer_store w x packets ≡ offered w x packets
+  pub store_accepted : {accepted : Accepted} → offer_answer w x packets ≡ Ok accepted → offer_store w x packets ≡ offered w x packets
   unfolding offer_store
   store_accepted e = rw (e, offer_store)
