@@ -11,58 +11,57 @@ ghost use Rattle.offer_keeps.specs.Room.{takes_message};
 
 use kinds::{Refusal, Slot};
 use offer_rules::Accepted;
-use store::{channel, head};
+use store::channel;
+use store::channel::Record;
+use store::lent::Sound;
 
 // 12: whether a message has 1 to C packets.
-#[tactic(auto, using(crate::proofs::Facts::offer_ready))]
-fn is_message(store: &[u64], x: usize, packets: u64) -> bool
-    requires store_value { sound_of store.now ≡ true }
-    requires channel { IsChannel store.now x }
-    ensures { result ≡ within 1 (c_of store.now x) packets }
+fn is_message(channel: &Record, packets: u64) -> bool
+    ensures { result ≡ within 1 (c_of channel.now.store channel.now.x) packets }
 {
-    (1..=channel::c(store, x)).contains(&packets)
+    (1..=channel.c()).contains(&packets)
 }
 
 // The logical time of the next message: the present slot, or p after the last message if that is later.
 #[tactic(auto, using(crate::proofs::Facts::offer_ready))]
-fn next_time(store: &[u64], x: usize) -> u64
-    requires store_value { sound_of store.now ≡ true }
-    requires channel { IsChannel store.now x }
+fn next_time(store: &Sound, x: usize) -> u64
+    requires { IsChannel store.now x }
     ensures { result ≡ offer_time store.now x }
 {
-    let clock = head::clock(store);
-    let n = channel::messages(store, x);
+    let clock = store.clock();
+    let channel = store.channel(x);
+    let n = channel.messages();
     if n == 0 {
         return clock;
     }
-    let after = channel::time(store, x, n) + channel::p(store, x);
+    let after = channel.time(n) + channel.p();
     clock.max(after)
 }
 
 // 13: whether a message at that time is within the burst.
 #[tactic(auto, using(crate::proofs::Facts::offer_ready))]
-fn in_burst(store: &[u64], x: usize, time: u64) -> bool
-    requires store_value { sound_of store.now ≡ true }
-    requires channel { IsChannel store.now x }
-    requires time_value { time ≡ offer_time store.now x }
+fn in_burst(store: &Sound, x: usize, time: u64) -> bool
+    requires known { IsChannel store.now x }
+    requires time { time ≡ offer_time store.now x }
     ensures { result ≡ in_burst store.now x }
 {
-    let ahead = time - head::clock(store);
-    ahead <= (channel::b(store, x) - 1) * channel::p(store, x)
+    let channel = store.channel(x);
+    let ahead = time - store.clock();
+    ahead <= (channel.b() - 1) * channel.p()
 }
 
 // 17, looked at last: whether one message more may be counted and kept, and its packets held.
 #[tactic(auto, using(crate::proofs::Facts::offer_ready))]
-fn takes_message(store: &[u64], x: usize, packets: u64) -> bool
-    requires store_value { sound_of store.now ≡ true }
-    requires channel { IsChannel store.now x }
-    requires packets_bound { packets ≤ c_of store.now x }
+fn takes_message(store: &Sound, x: usize, packets: u64) -> bool
+    requires known { IsChannel store.now x }
+    requires most { packets ≤ c_of store.now x }
     ensures { result ≡ takes_message store.now x packets }
 {
-    let n = channel::messages(store, x);
+    let channel = store.channel(x);
+    let n = channel.messages();
     Slot::is_number(n + 1)
-        && (sound_messages::in_order(store, x, n, store::UNDELIVERED - 1)
-            && store_route::held(store, x, 0) + packets <= store_route::reserved(store, x, 0))
+        && (sound_messages::in_order(&channel, n, store::UNDELIVERED - 1)
+            && store_route::held(&channel, 0) + packets <= store_route::reserved(&channel, 0))
 }
 
 // The answer to an offer. Nothing is written.
@@ -70,11 +69,9 @@ fn takes_message(store: &[u64], x: usize, packets: u64) -> bool
 fn answer(store: &[u64], number: u64, packets: u64) -> Result<Accepted, Refusal>
     ensures { result ≡ offer_answer store.now number packets }
 {
-    if !sound::is_sound(store) {
-        return Err(Refusal::NotSound);
-    }
-    let clock = head::clock(store);
-    let channels = head::channels(store) as u64;
+    let sound = sound::check(store).ok_or(Refusal::NotSound)?;
+    let clock = sound.clock();
+    let channels = sound.channels() as u64;
     let ended = clock >= Slot::END;
     if ended {
         return Err(Refusal::EndSlot);
@@ -84,18 +81,19 @@ fn answer(store: &[u64], number: u64, packets: u64) -> Result<Accepted, Refusal>
         return Err(Refusal::NoChannel);
     }
     let x = number as usize;
-    if !is_message(store, x, packets) {
+    let channel = sound.channel(x);
+    if !is_message(&channel, packets) {
         return Err(Refusal::MessageLength);
     }
-    let time = next_time(store, x);
-    if !in_burst(store, x, time) {
+    let time = next_time(&sound, x);
+    if !in_burst(&sound, x, time) {
         return Err(Refusal::Burst);
     }
-    if !takes_message(store, x, packets) {
+    if !takes_message(&sound, x, packets) {
         return Err(Refusal::NotSound);
     }
     Ok(Accepted {
-        message: channel::messages(store, x),
+        message: channel.messages(),
         time,
     })
 }
@@ -103,14 +101,14 @@ fn answer(store: &[u64], number: u64, packets: u64) -> Result<Accepted, Refusal>
 // What an accepted message writes: its logical time, its end, and that there is one message more.
 #[tactic(auto, using(crate::proofs::Facts::offer_ready), unfolding(offer_rules::specs::Offer::offered))]
 fn put_message(store: &mut [u64], x: usize, accepted: Accepted, packets: u64)
-    requires store_value { sound_of store.old ≡ true }
-    requires channel { IsChannel store.old x }
-    requires packets_bound { packets ≤ c_of store.old x }
-    requires n_value { accepted.message ≡ messages_of store.old x }
-    requires time_value { accepted.time ≡ offer_time store.old x }
+    requires sound { sound_of store.old ≡ true }
+    requires known { IsChannel store.old x }
+    requires most { packets ≤ c_of store.old x }
+    requires message { accepted.message ≡ messages_of store.old x }
+    requires time { accepted.time ≡ offer_time store.old x }
     ensures { store.new ≡ offered store.old x packets }
 {
-    let end = channel::end(store, x, accepted.message) + packets;
+    let end = Record::new(store, x).end(accepted.message) + packets;
     let new = accepted.message + 1;
     channel::put_time(store, x, new, accepted.time);
     channel::put_end(store, x, new, end);

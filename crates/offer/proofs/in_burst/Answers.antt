@@ -4,5 +4,7 @@ use Rattle.offer.proofs.in_burst.Goals as goal
 
 pub overflow_mul-result : goal.overflow_mul-result
 overflow_mul-result c =
-    let r = c.requires in
-    burst_fits _ r.store_value _ r.channel (omega (arith, c.b.ensures, b_most _ r.store_value _ r.channel)) c.p.ensures
+    let s = c.channel-channel.ensures.sound in
+    let k = c.requires.known in
+    let b = rw c.channel-channel.ensures.value at c.b.ensures in
+    burst_fits _ s _ k (omega (arith, b, b_most _ s _ k)) (rw c.channel-channel.ensures.value at c.p.ensures)

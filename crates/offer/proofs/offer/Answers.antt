@@ -7,11 +7,11 @@ put_message-requires c =
     let a = sym c.in-Ok.ensures in
     let p = accepted_passed _ _ _ a in
     record {
-      store_value = p.sound;
-      channel = p.known;
-      packets_bound = p.most;
-      n_value = accepted_number _ _ _ a;
-      time_value = accepted_time _ _ _ a;
+      sound = p.sound;
+      known = p.known;
+      most = p.most;
+      message = accepted_number _ _ _ a;
+      time = accepted_time _ _ _ a;
     }
 
 pub returns-in-Ok-clause-store_after : goal.returns-in-Ok-clause-store_after
