@@ -24,7 +24,8 @@ fn refused(why: Refusal) -> Opening
     }
 }
 
-// The answer to an open that has passed the checks before the search: checks 8 to 10, and the numbers of each link.
+// The answer to an open that has passed the checks before the search: checks 8 to 10, and the numbers of each link. Behind a
+// `Result`, for `?`, an opening is on the stack twice: an open then needs 2,056 bytes, more than the header names.
 fn late(store: &[u64], passed: open_checks::Passed, route: &[u64]) -> Opening
     requires { Passed store.now passed route.now }
     ensures { result ≡ open_answer store.now (asking passed.asked route.now) }

@@ -8,7 +8,7 @@ use kinds::{Network, Refusal};
 use store::LENGTH;
 
 // The public call: sets a network up in the lent store, or refuses and leaves the store alone.
-#[tactic(auto, using(folds::proofs::Chains::failing_some, folds::proofs::Chains::failing_none, setup_list::proofs::Laws::Links::pass_whole), unfolding(crate::specs::SetUp::set_up_answer, crate::specs::SetUp::set_up_store, setup_fresh::specs::Fresh::fresh_store))]
+#[tactic(auto, using(crate::proofs::Laws::Answer::links_looked_at), unfolding(crate::specs::SetUp::set_up_answer, crate::specs::SetUp::set_up_store, setup_fresh::specs::Fresh::fresh_store))]
 pub fn set_up(store: &mut [u64], links: &[u64]) -> Result<(), Refusal>
     ensures value { result ≡ set_up_answer store.old links.now }
     ensures store_after { store.new ≡ set_up_store store.old links.now }

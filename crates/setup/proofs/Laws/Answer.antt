@@ -16,11 +16,15 @@ use Rattle.folds.proofs.Folds.{every_at}
 use Rattle.kinds.specs.declared.Refusal.{Refusal}
 use Rattle.kinds.specs.declared.Refusal.TheVariants.{BadLinks, NotSound}
 use Rattle.std.specs.declared.result.Result.TheVariants.{Ok, Err}
-use Rattle.setup_list.proofs.Laws.Links.{passes_at}
+use Rattle.folds.proofs.Chains.{failing_some, failing_none}
+use Rattle.setup_list.proofs.Laws.Links.{passes_at, pass_whole}
 use Rattle.setup_fresh.proofs.Laws.Fresh.{fresh_from, fresh_to, fresh_horizon, fresh_buffer}
 use Rattle.setup_list.specs.List.{links_in, from_in, to_in, horizon_in, buffer_in, link_passes_at, links_pass}
 use Rattle.setup_fresh.specs.Fresh.{fresh_store}
 use Rattle.setup.specs.SetUp.{set_up_answer, set_up_store}
+
+-- for the proof of the call: what it learns of the links
+pub ruleset links_looked_at = (failing_some, failing_none, pass_whole)
 
 -- what set-up accepts: "links 1 to 16", each of which passes, and a store that is long enough
 pub record Accepted (w : Store) (numbers : List ℕ) : Type 0 where
