@@ -11,4 +11,3 @@ pub mod Rows
 pub mod Join
 pub mod Shares
 pub mod Delays
-pub mod Values
