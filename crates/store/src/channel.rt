@@ -148,28 +148,12 @@ pub fn clear(store: &mut [u64], x: usize)
     store[start..start + RECORD].fill(0);
 }
 
-pub fn c(store: &[u64], x: usize) -> u64
-    requires long { Long store.now }
-    requires x_lt_most_channels { x < most_channels }
-    ensures { result ≡ c_of store.now x }
-{
-    store[CHANNELS + RECORD * x]
-}
-
 pub fn put_c(store: &mut [u64], x: usize, v: u64)
     requires long { Long store.old }
     requires x_lt_most_channels { x < most_channels }
     ensures { store.new ≡ with_c store.old x v }
 {
     store[CHANNELS + RECORD * x] = v;
-}
-
-pub fn p(store: &[u64], x: usize) -> u64
-    requires long { Long store.now }
-    requires x_lt_most_channels { x < most_channels }
-    ensures { result ≡ p_of store.now x }
-{
-    store[CHANNELS + RECORD * x + 1]
 }
 
 pub fn put_p(store: &mut [u64], x: usize, v: u64)
@@ -180,28 +164,12 @@ pub fn put_p(store: &mut [u64], x: usize, v: u64)
     store[CHANNELS + RECORD * x + 1] = v;
 }
 
-pub fn d(store: &[u64], x: usize) -> u64
-    requires long { Long store.now }
-    requires x_lt_most_channels { x < most_channels }
-    ensures { result ≡ d_of store.now x }
-{
-    store[CHANNELS + RECORD * x + 2]
-}
-
 pub fn put_d(store: &mut [u64], x: usize, v: u64)
     requires long { Long store.old }
     requires x_lt_most_channels { x < most_channels }
     ensures { store.new ≡ with_d store.old x v }
 {
     store[CHANNELS + RECORD * x + 2] = v;
-}
-
-pub fn b(store: &[u64], x: usize) -> u64
-    requires long { Long store.now }
-    requires x_lt_most_channels { x < most_channels }
-    ensures { result ≡ b_of store.now x }
-{
-    store[CHANNELS + RECORD * x + 3]
 }
 
 pub fn put_b(store: &mut [u64], x: usize, v: u64)
@@ -212,14 +180,6 @@ pub fn put_b(store: &mut [u64], x: usize, v: u64)
     store[CHANNELS + RECORD * x + 3] = v;
 }
 
-pub fn hops(store: &[u64], x: usize) -> usize
-    requires long { Long store.now }
-    requires x_lt_most_channels { x < most_channels }
-    ensures { result ≡ hops_of store.now x }
-{
-    store[CHANNELS + RECORD * x + 4] as usize
-}
-
 pub fn put_hops(store: &mut [u64], x: usize, v: usize)
     requires long { Long store.old }
     requires x_lt_most_channels { x < most_channels }
@@ -228,37 +188,12 @@ pub fn put_hops(store: &mut [u64], x: usize, v: usize)
     store[CHANNELS + RECORD * x + 4] = v as u64;
 }
 
-pub fn messages(store: &[u64], x: usize) -> u64
-    requires long { Long store.now }
-    requires x_lt_most_channels { x < most_channels }
-    ensures { result ≡ messages_of store.now x }
-{
-    store[CHANNELS + RECORD * x + 5]
-}
-
 pub fn put_messages(store: &mut [u64], x: usize, v: u64)
     requires long { Long store.old }
     requires x_lt_most_channels { x < most_channels }
     ensures { store.new ≡ with_messages store.old x v }
 {
     store[CHANNELS + RECORD * x + 5] = v;
-}
-
-// Where its route starts in the store.
-pub fn route_start(x: usize) -> usize
-    requires { x < most_channels }
-    ensures { result ≡ route_start x }
-{
-    CHANNELS + RECORD * x + 8
-}
-
-pub fn route(store: &[u64], x: usize, j: usize) -> usize
-    requires long { Long store.now }
-    requires x_lt_most_channels { x < most_channels }
-    requires j_lt_most_hops { j < most_hops }
-    ensures { result ≡ route_of store.now x j }
-{
-    store[CHANNELS + RECORD * x + 8 + j] as usize
 }
 
 pub fn put_route(store: &mut [u64], x: usize, j: usize, v: usize)
@@ -270,15 +205,6 @@ pub fn put_route(store: &mut [u64], x: usize, j: usize, v: usize)
     store[CHANNELS + RECORD * x + 8 + j] = v as u64;
 }
 
-pub fn delay(store: &[u64], x: usize, j: usize) -> u64
-    requires long { Long store.now }
-    requires x_lt_most_channels { x < most_channels }
-    requires j_lt_most_hops { j < most_hops }
-    ensures { result ≡ delay_of store.now x j }
-{
-    store[CHANNELS + RECORD * x + 16 + j]
-}
-
 pub fn put_delay(store: &mut [u64], x: usize, j: usize, v: u64)
     requires long { Long store.old }
     requires x_lt_most_channels { x < most_channels }
@@ -286,15 +212,6 @@ pub fn put_delay(store: &mut [u64], x: usize, j: usize, v: u64)
     ensures { store.new ≡ with_delay store.old x j v }
 {
     store[CHANNELS + RECORD * x + 16 + j] = v;
-}
-
-pub fn sent(store: &[u64], x: usize, j: usize) -> u64
-    requires long { Long store.now }
-    requires x_lt_most_channels { x < most_channels }
-    requires j_lt_most_hops { j < most_hops }
-    ensures { result ≡ sent_of store.now x j }
-{
-    store[CHANNELS + RECORD * x + 24 + j]
 }
 
 pub fn put_sent(store: &mut [u64], x: usize, j: usize, v: u64)
@@ -306,28 +223,12 @@ pub fn put_sent(store: &mut [u64], x: usize, j: usize, v: u64)
     store[CHANNELS + RECORD * x + 24 + j] = v;
 }
 
-pub fn time(store: &[u64], x: usize, n: u64) -> u64
-    requires long { Long store.now }
-    requires x_lt_most_channels { x < most_channels }
-    ensures { result ≡ time_of store.now x n }
-{
-    store[CHANNELS + RECORD * x + 32 + (n % RING) as usize]
-}
-
 pub fn put_time(store: &mut [u64], x: usize, n: u64, v: u64)
     requires long { Long store.old }
     requires x_lt_most_channels { x < most_channels }
     ensures { store.new ≡ with_time store.old x n v }
 {
     store[CHANNELS + RECORD * x + 32 + (n % RING) as usize] = v;
-}
-
-pub fn end(store: &[u64], x: usize, n: u64) -> u64
-    requires long { Long store.now }
-    requires x_lt_most_channels { x < most_channels }
-    ensures { result ≡ end_of store.now x n }
-{
-    store[CHANNELS + RECORD * x + 56 + (n % RING) as usize]
 }
 
 pub fn put_end(store: &mut [u64], x: usize, n: u64, v: u64)
@@ -353,22 +254,4 @@ pub fn place_before(at: usize) -> usize
     ensures upper_bound { result < ring }
 {
     if at == 0 { (RING - 1) as usize } else { at - 1 }
-}
-
-pub fn time_in(store: &[u64], x: usize, at: usize) -> u64
-    requires long { Long store.now }
-    requires x_lt_most_channels { x < most_channels }
-    requires at_lt_ring { at < ring }
-    ensures { result ≡ time_of store.now x at }
-{
-    store[CHANNELS + RECORD * x + at + 32]
-}
-
-pub fn end_in(store: &[u64], x: usize, at: usize) -> u64
-    requires long { Long store.now }
-    requires x_lt_most_channels { x < most_channels }
-    requires at_lt_ring { at < ring }
-    ensures { result ≡ end_of store.now x at }
-{
-    store[CHANNELS + RECORD * x + at + 56]
 }

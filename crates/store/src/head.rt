@@ -2,13 +2,6 @@
 ghost use Rattle.std.specs.Prelude.{◌≡◌};
 ghost use Rattle.store.specs.Layout.{Long, links_of, with_links, channels_of, with_channels, clock_of, with_clock};
 
-pub fn links(store: &[u64]) -> usize
-    requires { Long store.now }
-    ensures { result ≡ links_of store.now }
-{
-    store[0] as usize
-}
-
 pub fn put_links(store: &mut [u64], v: usize)
     requires { Long store.old }
     ensures { store.new ≡ with_links store.old v }
@@ -16,25 +9,11 @@ pub fn put_links(store: &mut [u64], v: usize)
     store[0] = v as u64;
 }
 
-pub fn channels(store: &[u64]) -> usize
-    requires { Long store.now }
-    ensures { result ≡ channels_of store.now }
-{
-    store[1] as usize
-}
-
 pub fn put_channels(store: &mut [u64], v: usize)
     requires { Long store.old }
     ensures { store.new ≡ with_channels store.old v }
 {
     store[1] = v as u64;
-}
-
-pub fn clock(store: &[u64]) -> u64
-    requires { Long store.now }
-    ensures { result ≡ clock_of store.now }
-{
-    store[2]
 }
 
 pub fn put_clock(store: &mut [u64], v: u64)

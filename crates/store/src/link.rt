@@ -80,28 +80,12 @@ impl Record<'_> {
     }
 }
 
-pub fn from(store: &[u64], l: usize) -> u64
-    requires long { Long store.now }
-    requires l_lt_most_links { l < most_links }
-    ensures { result ≡ from_of store.now l }
-{
-    store[LINKS + RECORD * l]
-}
-
 pub fn put_from(store: &mut [u64], l: usize, v: u64)
     requires long { Long store.old }
     requires l_lt_most_links { l < most_links }
     ensures { store.new ≡ with_from store.old l v }
 {
     store[LINKS + RECORD * l] = v;
-}
-
-pub fn to(store: &[u64], l: usize) -> u64
-    requires long { Long store.now }
-    requires l_lt_most_links { l < most_links }
-    ensures { result ≡ to_of store.now l }
-{
-    store[LINKS + RECORD * l + 1]
 }
 
 pub fn put_to(store: &mut [u64], l: usize, v: u64)
@@ -112,28 +96,12 @@ pub fn put_to(store: &mut [u64], l: usize, v: u64)
     store[LINKS + RECORD * l + 1] = v;
 }
 
-pub fn horizon(store: &[u64], l: usize) -> u64
-    requires long { Long store.now }
-    requires l_lt_most_links { l < most_links }
-    ensures { result ≡ horizon_of store.now l }
-{
-    store[LINKS + RECORD * l + 2]
-}
-
 pub fn put_horizon(store: &mut [u64], l: usize, v: u64)
     requires long { Long store.old }
     requires l_lt_most_links { l < most_links }
     ensures { store.new ≡ with_horizon store.old l v }
 {
     store[LINKS + RECORD * l + 2] = v;
-}
-
-pub fn buffer(store: &[u64], l: usize) -> u64
-    requires long { Long store.now }
-    requires l_lt_most_links { l < most_links }
-    ensures { result ≡ buffer_of store.now l }
-{
-    store[LINKS + RECORD * l + 3]
 }
 
 pub fn put_buffer(store: &mut [u64], l: usize, v: u64)
@@ -144,29 +112,12 @@ pub fn put_buffer(store: &mut [u64], l: usize, v: u64)
     store[LINKS + RECORD * l + 3] = v;
 }
 
-pub fn rows(store: &[u64], l: usize) -> usize
-    requires long { Long store.now }
-    requires l_lt_most_links { l < most_links }
-    ensures { result ≡ rows_of store.now l }
-{
-    store[LINKS + RECORD * l + 4] as usize
-}
-
 pub fn put_rows(store: &mut [u64], l: usize, v: usize)
     requires long { Long store.old }
     requires l_lt_most_links { l < most_links }
     ensures { store.new ≡ with_rows store.old l v }
 {
     store[LINKS + RECORD * l + 4] = v as u64;
-}
-
-pub fn row_channel(store: &[u64], l: usize, k: usize) -> usize
-    requires long { Long store.now }
-    requires l_lt_most_links { l < most_links }
-    requires k_lt_most_rows { k < most_rows }
-    ensures { result ≡ row_channel_of store.now l k }
-{
-    store[LINKS + RECORD * l + 16 + 2 * k] as usize
 }
 
 pub fn put_row_channel(store: &mut [u64], l: usize, k: usize, v: usize)
@@ -176,15 +127,6 @@ pub fn put_row_channel(store: &mut [u64], l: usize, k: usize, v: usize)
     ensures { store.new ≡ with_row_channel store.old l k v }
 {
     store[LINKS + RECORD * l + 16 + 2 * k] = v as u64;
-}
-
-pub fn row_place(store: &[u64], l: usize, k: usize) -> usize
-    requires long { Long store.now }
-    requires l_lt_most_links { l < most_links }
-    requires k_lt_most_rows { k < most_rows }
-    ensures { result ≡ row_place_of store.now l k }
-{
-    store[LINKS + RECORD * l + 17 + 2 * k] as usize
 }
 
 pub fn put_row_place(store: &mut [u64], l: usize, k: usize, v: usize)
