@@ -32,8 +32,14 @@ slot_pick_pick κs a = whole answer
 pub slot_pick_picks : Unique slot_pick.picks.ended slot_pick_proofs.picks.Reads.Post
 slot_pick_picks κs a = whole answer
 
-pub slot_move_pick : Unique slot_move.pick.ended slot_move_proofs.pick.Reads.Post
-slot_move_pick κs a = whole answer
+pub slot_pick_picked_new : Unique slot_pick.Picked.new.ended slot_pick_proofs.Picked.new.Reads.Post
+slot_pick_picked_new κs a = whole answer
+
+pub slot_pick_picked_store : Unique slot_pick.Picked.store.ended slot_pick_proofs.Picked.store.Reads.Post
+slot_pick_picked_store κs a = whole answer
+
+pub slot_pick_picked_pick : Unique slot_pick.Picked.pick.ended slot_pick_proofs.Picked.pick.Reads.Post
+slot_pick_picked_pick κs a = whole answer
 
 pub slot_move_report : Unique slot_move.report.ended slot_move_proofs.report.Reads.Post
 slot_move_report κs a = whole (answer & second)
@@ -42,7 +48,7 @@ pub slot_move_move_on : Unique slot_move.move_on.ended slot_move_proofs.move_on.
 slot_move_move_on κs a = whole first
 
 pub slot_checks_turn : Unique slot_checks.turn.ended slot_checks_proofs.turn.Reads.Post
-slot_checks_turn κs a = whole (answer & third)
+slot_checks_turn κs a = whole answer
 
 pub slot_run : Unique slot.run.ended slot_proofs.run.Reads.Post
 slot_run κs a = whole (answer & first & second & third & fourth)
