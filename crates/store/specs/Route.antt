@@ -1,6 +1,6 @@
 -- Document 01's checks 3, 4 and 5 of a route, each at one place of it. The route is given by the link number at each place,
 -- so that one definition serves a route that is asked for and one that is stored.
-use Rattle.std.specs.Prelude.{ℕ, zero, suc, ◌+◌, ◌<◌, Bool, true, ◌&&◌, not, List, eqb, ltb}
+use Rattle.std.specs.Prelude.{ℕ, zero, suc, ◌<◌, Bool, true, ◌&&◌, not, List, eqb, ltb}
 use Rattle.kinds.specs.Ranges.{most_links}
 use Rattle.store.specs.Layout.{Store, number_at, links_of, from_of, to_of}
 use Rattle.folds.specs.Folds.{every}
@@ -8,10 +8,6 @@ use Rattle.folds.specs.Folds.{every}
 -- the link at place j of a route
 abbrev pub along : (route : List ℕ) → (j : ℕ) → ℕ
 along route j = number_at route j
-
--- the numbers from place `at` on
-abbrev pub from : List ℕ → (at j : ℕ) → ℕ
-from numbers at j = number_at numbers (at + j)
 
 -- 3, "a link number does not exist"
 abbrev pub exists : Store → (route : ℕ → ℕ) → ℕ → Bool
