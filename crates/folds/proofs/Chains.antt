@@ -77,8 +77,8 @@ module _ {F : Type 0} (f : ℕ → Bool) (n : ℕ) where
 pub failing_from_position : {F : Type 0} (f t : ℕ → Bool) (numbers : List ℕ) {g : Mut F (Bor ℕ × Unit {0}) Bool} {s : Iter ℕ}
     (u : Iter ℕ) (h : F) (r : Option ℕ)
     → (xs : List (Bor ℕ)) × (o : Option (Bor ℕ)) × (j : F) × YieldsThen fronts s xs o u
-      × FoldsTo (λ p x q. Called g p (x, tt) false q) h xs j
-      × MatchOption o (r ≡ None) (λ x. (r ≡ Some (length xs)) × ((e : F) × Called g j (x, tt) true e))
+    × FoldsTo (λ p x q. Called g p (x, tt) false q) h xs j
+    × MatchOption o (r ≡ None) (λ x. (r ≡ Some (length xs)) × ((e : F) × Called g j (x, tt) true e))
     → iter_rest s ≡ numbers
     → ((x : Bor ℕ) (b : Bool) (q : F) → Called g h (x, tt) b q → (q ≡ h) × (t x.now ≡ not b))
     → ((j : ℕ) → j < length numbers → f j ≡ t (get_or numbers j 0))
@@ -86,11 +86,11 @@ pub failing_from_position : {F : Type 0} (f t : ℕ → Bool) (numbers : List �
 unfolding failing
 failing_from_position f t numbers u h r ran e called tests =
     go r (IsFirst-from_position u h r (λ x. t x ≡ false) (λ x. t x ≡ true) ran (YieldsList-from_slice numbers e)
-      (λ x q k. (called x true q k).1) (λ x q k. called x false q k))
+    (λ x q k. (called x true q k).1) (λ x q k. called x false q k))
   where
     go : (r : Option ℕ)
         → MatchOption r (AllWithin (λ x. t x ≡ true) numbers 0 (length numbers))
-          (λ i. (i < length numbers) × HoldsAt (λ x. t x ≡ false) numbers i × AllWithin (λ x. t x ≡ true) numbers 0 i)
+        (λ i. (i < length numbers) × HoldsAt (λ x. t x ≡ false) numbers i × AllWithin (λ x. t x ≡ true) numbers 0 i)
         → r ≡ failing f (length numbers)
     go None m =
         let a : every f (length numbers) ≡ true =
