@@ -75,7 +75,7 @@ fn advance(store: &mut [u64], l: usize, k: usize)
     channel::put_sent(store, x, j, sent + 1);
 }
 
-// The picked packets have moved on, and the clock has risen by one.
+// The picked packets have moved on, and the clock has risen by one. The picks stand beside the store, since it is written.
 #[tactic(auto, using(slot_rules::proofs::Laws::Ready::ready))]
 pub fn move_on(store: &mut [u64], picks: &[Option<usize>; Network::MOST_LINKS])
     requires picks { Picks store.old picks.now }
