@@ -11,7 +11,7 @@ use kinds::{Network, Refusal, Slot};
 use slot_pick::Picked;
 
 // Whether a packet of channel `x` leaves place `j` of its route in this slot.
-#[tactic(auto, using(slot_rules::proofs::Laws::Ready::ready))]
+#[tactic(auto, using(slot_move::proofs::Rows::row_ready, slot_move::proofs::Rows::a_row))]
 fn leaves(picked: &Picked, x: usize, j: usize) -> bool
     requires channel { IsChannel picked.now x }
     requires on_route { j < hops_of picked.now x }
@@ -38,7 +38,7 @@ fn takes_packet(picked: &Picked, x: usize, j: usize) -> bool
 }
 
 // Whether the packet that link `l` picked is on its last link, or has room on the next one.
-#[tactic(auto, using(slot_rules::proofs::Laws::Ready::ready))]
+#[tactic(auto, using(slot_move::proofs::Rows::row_ready, slot_move::proofs::Rows::a_row))]
 fn room_after(picked: &Picked, l: usize) -> bool
     requires { l < links_of picked.now }
     ensures { result ≡ room_after picked.now l }
