@@ -97,13 +97,9 @@ pub fn byanghosu_open(
         (record { c = c; p = p; d = d; b = b; route = route.now }) }
 {
     let opening = open::open(store, c, p, d, b, route);
-    // an array goes from a field into a lent one by way of a name: the check covers no straighter form
-    let found = opening.responses;
-    *responses = found;
-    let given = opening.delays;
-    *delays = given;
-    let packets = opening.reserved;
-    *reserved = packets;
+    responses.copy_from_slice(&opening.responses);
+    delays.copy_from_slice(&opening.delays);
+    reserved.copy_from_slice(&opening.reserved);
     match opening.outcome {
         Ok(number) => {
             *channel = number;

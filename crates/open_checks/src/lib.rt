@@ -28,7 +28,8 @@ fn crowded_link(store: &Sound, route: &[u64]) -> Option<usize>
     (0..route.len()).find(|&j| store.link(route[j] as usize).rows() >= Link::MOST_ROWS)
 }
 
-// Checks 17, 14 and 1 to 7, in this order.
+// Checks 17, 14 and 1 to 7, in this order. What they need of the stack is free again when the search begins.
+#[inline(never)]
 #[tactic(auto, using(crate::proofs::Sound::sound_long, crate::proofs::Sound::sound_few), unfolding(checks::specs::Checks::first_failed, kinds::specs::Checks::new_channel, kinds::specs::Checks::new_route))]
 pub fn early(
     store: &[u64],

@@ -1,5 +1,6 @@
 // How the asked delay is shared out along a route, and the packets reserved for it: document 01, "Opening". Arrays have a
-// number for each place of the route.
+// number for each place of the route. What works them out is not inlined: its own arrays are then no part of the stack of the
+// search before it.
 #![tactic(auto)]
 
 ghost use Rattle.std.specs.Prelude.{◌≡◌, true, ◌+◌, ◌≤◌, ◌<◌, length, leb};
@@ -31,6 +32,7 @@ pub fn total(responses: &[u64; Route::MOST_HOPS], way: Route) -> u64
 }
 
 // The delay at each place of it: its share of D, or p if that is smaller. `sum` is S.
+#[inline(never)]
 #[tactic(auto, using(open_rules::proofs::Laws::Eight::eight_none, open_rules::proofs::Laws::Eight::eight_more))]
 pub fn delays(
     asked: Channel,
@@ -79,6 +81,7 @@ fn reserved_at(
 }
 
 // The packets to be reserved at each place of the route.
+#[inline(never)]
 #[tactic(auto, using(open_rules::proofs::Laws::Eight::eight_none, open_rules::proofs::Laws::Eight::eight_more))]
 pub fn reserved(
     store: &Lent,
@@ -138,6 +141,7 @@ fn fits(store: &Sound, l: usize, packets: u64) -> bool
 }
 
 // 10: the first place whose link's buffer would be exceeded.
+#[inline(never)]
 pub fn full_link(store: &Sound, route: &[u64], reserved: &[u64; Route::MOST_HOPS]) -> Option<usize>
     requires few_hops { length route.now ≤ most_hops }
     requires known { every (exists store.now (along route.now)) (length route.now) ≡ true }

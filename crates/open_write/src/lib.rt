@@ -63,6 +63,7 @@ fn join_rows(store: &mut [u64], x: usize, n: usize)
 }
 
 // Channel `x` is opened: its record, its row on each link of its route, and one channel more.
+#[inline(never)]
 pub fn enter(
     store: &mut [u64],
     x: usize,

@@ -1,5 +1,4 @@
 -- An open and its parts: each contract permits one outcome only.
-use mathlib.Core.Path.{ap, ◌∙◌}
 use Rattle.open_search.specs.contracts as open_search
 use Rattle.open_search.proofs as open_search_proofs
 use Rattle.open_shares.specs.contracts as open_shares
@@ -12,13 +11,11 @@ use Rattle.open_checks.specs.contracts as open_checks
 use Rattle.open_checks.proofs as open_checks_proofs
 use Rattle.open.specs.contracts as opening
 use Rattle.open.proofs as opening_proofs
-use Rattle.open_rules.specs.Shares.{eight}
 use Rattle.unique.specs.Unique.{Unique}
-use Rattle.unique.proofs.Shapes.{whole, ◌&◌, from, answer, first, fourth}
+use Rattle.unique.proofs.Shapes.{whole, ◌&◌, answer, first, fourth}
 
--- what the buffer holds is said by the answer, which the first clause fixes
 pub open_search_responses : Unique open_search.responses.ended open_search_proofs.responses.Reads.Post
-open_search_responses κs a = whole (from (λ o h. (h.0, h.1 ∙ ap (eight _) h.0)) (answer & fourth))
+open_search_responses κs a = whole (answer & fourth)
 
 pub open_shares_total : Unique open_shares.total.ended open_shares_proofs.total.Reads.Post
 open_shares_total κs a = whole answer
