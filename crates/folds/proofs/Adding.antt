@@ -6,7 +6,7 @@ use native.Mathlib.Omega.{arith}
 use mir.Syntax.{w64}
 use mir.Val.{Fits}
 use Rattle.folds.specs.Folds.{sum_to}
-use Rattle.folds.proofs.Folds.{sum_none, sum_more}
+use Rattle.folds.proofs.Folds.{sum_more}
 
 -- those below i are added, each at most `most`
 pub record Adding (f : ℕ → ℕ) (most n i sum : ℕ) : Type 0 where
@@ -15,9 +15,6 @@ pub record Adding (f : ℕ → ℕ) (most n i sum : ℕ) : Type 0 where
   pub small : sum ≤ most * i
 
 module _ (f : ℕ → ℕ) (most n : ℕ) where
-  pub adding_none : Adding f most n 0 0
-  adding_none = record { place = omega arith; total = sym (sum_none f); small = omega arith }
-
   module _ (i sum : ℕ) (a : Adding f most n i sum) where
     pub adding_more : i < n → (v : ℕ) → v ≡ f i → v ≤ most → Adding f most n (i + 1) (sum + v)
     adding_more h v e l = record {

@@ -99,21 +99,6 @@ module _ (f : ℕ → Bool) where
       go true a = omega (arith, first_end n a)
       go false a = omega (arith, first_below n a)
 
-  -- as tests on the number that was found
-  pub first_less : (n u : ℕ) → u ≡ first_not f n → u < n → every f n ≡ false
-  first_less n u e h = go (every f n) refl
-    where
-      go : (t : Bool) → every f n ≡ t → every f n ≡ false
-      go true a = absurd (omega (arith, first_end n a))
-      go false a = a
-
-  pub first_all : (n u : ℕ) → u ≡ first_not f n → n ≤ u → every f n ≡ true
-  first_all n u e h = go (every f n) refl
-    where
-      go : (t : Bool) → every f n ≡ t → every f n ≡ true
-      go true a = a
-      go false a = absurd (omega (arith, first_below n a))
-
   pub first_is : (n : ℕ) → First f n (first_not f n)
   unfolding every first_not
   first_is zero = record { before = refl; fails = λ h. absurd (omega arith) }

@@ -8,11 +8,10 @@ use borrow.Author.Tests.{le-leb, leb-true, eqb-false, ne_eqb, not-true}
 use Rattle.kinds.specs.Ranges.{within, most_node, most_horizon, most_buffer, most_c, most_p, most_d, most_b, in_range_node}
 use Rattle.kinds.specs.Ranges.{in_range_horizon, in_range_c, in_range_p, in_range_d, in_range_hops}
 use Rattle.kinds.specs.Checks.{link_passes, channel_passes, new_link, new_channel, new_route}
-use Rattle.kinds.specs.declared.Link.{Link}
 use Rattle.kinds.specs.declared.Channel.{Channel}
 use Rattle.kinds.specs.declared.Route.{Route}
 use Rattle.kinds.specs.declared.Refusal.{Refusal}
-use Rattle.kinds.specs.declared.Refusal.TheVariants.{Range, RouteLength, BadLinks}
+use Rattle.kinds.specs.declared.Refusal.TheVariants.{Range, RouteLength}
 use Rattle.std.specs.declared.result.Result.TheVariants.{Ok, Err}
 use Rattle.std.specs.Prelude.{is_ok}
 
@@ -95,14 +94,7 @@ module _ (from to horizon buffer : ℕ) where
   unfolding new_link
   link_good e = rw (e, new_link)
 
-  pub link_refused : link_passes from to horizon buffer ≡ false → Err (BadLinks 0) ≡ new_link from to horizon buffer
-  unfolding new_link
-  link_refused e = rw (e, new_link)
-
   -- and what an answer says of the check
-  pub good_link : {x : Link} → new_link from to horizon buffer ≡ Ok x → link_passes from to horizon buffer ≡ true
-  good_link e = always _ (λ f. let z : ◌≡◌ {A = ℕ} 0 1 = cc (link_refused f) in omega arith)
-
   pub refused_link : {n : Refusal} → new_link from to horizon buffer ≡ Err n → link_passes from to horizon buffer ≡ false
   refused_link e = never _ (λ f. let z : ◌≡◌ {A = ℕ} 0 1 = cc (link_good f) in omega arith)
 
@@ -168,9 +160,6 @@ module _ (c p d b : ℕ) where
   pub channel_asked : {x : Channel} → new_channel c p d b ≡ Ok x → x ≡ record { c = c; p = p; d = d; b = b }
   channel_asked e = let z = channel_good (good_channel e) in cc
 
-  pub refused_channel : {n : Refusal} → new_channel c p d b ≡ Err n → channel_passes c p d b ≡ false
-  refused_channel e = never _ (λ f. let z : ◌≡◌ {A = ℕ} 0 1 = cc (channel_good f) in omega arith)
-
   pub channel_is_ok : is_ok (new_channel c p d b) ≡ channel_passes c p d b
   unfolding new_channel
   channel_is_ok = go (channel_passes c p d b) refl
@@ -194,9 +183,6 @@ module _ (hops : ℕ) where
 
   pub route_asked : {x : Route} → new_route hops ≡ Ok x → x ≡ record { hops = hops }
   route_asked e = let z = route_good (good_route e) in cc
-
-  pub refused_route : {n : Refusal} → new_route hops ≡ Err n → in_range_hops hops ≡ false
-  refused_route e = never _ (λ f. let z : ◌≡◌ {A = ℕ} 0 1 = cc (route_good f) in omega arith)
 
   pub route_is_ok : is_ok (new_route hops) ≡ in_range_hops hops
   unfolding new_route

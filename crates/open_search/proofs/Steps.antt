@@ -47,9 +47,6 @@ module _ (w : Store) (c p l : ℕ) (t : List ℕ) (g : Turn w c p l t) where
   pub few : rows_of w l ≤ most_rows
   few = rows_most w g.sound l g.link
 
-  pub new_limit : p ≤ most_p
-  new_limit = (within_true 1 most_p p g.p_in).1
-
   -- an old row, the last of the first q: it stands at 3 * q, and above it the new channel and the rows before it
   module _ (q : ℕ) (positive : 0 < q) (inside : q ≤ rows_of w l) where
     at : 3 * q ≡ 3 * (q - 1) + 3

@@ -3,7 +3,7 @@ use Rattle.std.proofs.Common.{ℕ, zero, suc, ◌-◌, ◌≤◌, ◌<◌, ◌�
 use native.Mathlib.Nat.{mul-le-mul}
 use Rattle.std.specs.declared.option.Option.{Option}
 use Rattle.std.specs.declared.option.Option.TheVariants.{None, Some}
-use Rattle.kinds.specs.Ranges.{most_rows, most_channels, most_hops, most_number}
+use Rattle.kinds.specs.Ranges.{most_rows, most_hops, most_number}
 use Rattle.store.specs.Layout.{Store, IsChannel, ring, links_of, row_channel_of, row_place_of, messages_of, sent_of, end_of}
 use Rattle.store.specs.Sound.{sound_of}
 use Rattle.store.proofs.Laws.Sound.{ChannelIs, sound_is}
@@ -11,7 +11,7 @@ use Rattle.slot_rules.specs.Head.{message_of}
 use Rattle.slot_rules.specs.Pick.{pick_of, row_of}
 use Rattle.slot_rules.proofs.Laws.Head.{MessageIs, message_is, entered_most}
 use Rattle.slot_rules.proofs.Laws.Pick.{picked}
-use Rattle.slot_rules.proofs.Laws.Ready.{ready, links_few, row_small, channel_small, place_small}
+use Rattle.slot_rules.proofs.Laws.Ready.{ready, links_few, row_small, place_small}
 use Rattle.slot_pick.specs.Picks.{Picks}
 use Rattle.slot_pick.proofs.Laws.{picks_at}
 use Rattle.slot_keeps.proofs.Leaves.{Leaving, leaving}
@@ -50,9 +50,6 @@ module _ (w : Store) (sound : sound_of w ≡ true) (l : ℕ) (h : l < links_of w
 
   pub channel_there : IsChannel w (row_channel_of w l k)
   channel_there = row_leaves.stands.channel
-
-  pub channel_few : row_channel_of w l k < most_channels
-  channel_few = channel_small w sound x row_leaves.stands.channel
 
   pub place_few : row_place_of w l k < most_hops
   place_few = place_small w sound x j row_leaves.stands.channel row_leaves.stands.place

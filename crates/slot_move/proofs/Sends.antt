@@ -6,19 +6,11 @@ use native.Mathlib.Numerals.{add-one}
 use native.Mathlib.Omega.{arith}
 use lib.ListN.{length, take, drop, length-append}
 use lib.Seq.{sets, sets-eq, take_at, drop_at, drop-drop}
-use Rattle.store.specs.Layout.{Store, clock_of, row_channel_of, row_place_of, sent_of, end_of}
-use Rattle.slot_rules.specs.Head.{message_of}
+use Rattle.store.specs.Layout.{Store, row_channel_of, row_place_of}
 use Rattle.slot_rules.specs.Pick.{pick_of}
 use Rattle.slot_rules.specs.Slot.{Send, numbers, send_at, sends_to, written}
 use Rattle.slot_rules.proofs.Laws.Sends.{numbers_length, numbers_more, sends_most, written_none, written_length}
 use Rattle.slot_move.specs.Sends.{send_put}
-
--- a send as its numbers were read: channel x, place j, message m of which packets up to e are of those before it, s packets sent
-pub send_is : (w : Store) (slot l k x j m e s : ℕ) → slot ≡ clock_of w → x ≡ row_channel_of w l k → j ≡ row_place_of w l k
-    → m ≡ message_of w x j → e ≡ end_of w x (m - 1) → s ≡ sent_of w x j
-    → record { slot = slot; link = l; channel = x; message = m - 1; packet = s - e }
-    ≡ send_at w l (row_channel_of w l k) (row_place_of w l k)
-send_is w slot l k x j m e s now a b of front all = rw (now, front, all, of, a, b)
 
 module _ (sends : List Send) (u : Send) (out : List ℕ) where
   abbrev at : ℕ

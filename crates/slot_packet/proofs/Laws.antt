@@ -11,7 +11,7 @@ use Rattle.folds.specs.Folds.{sum_to}
 use Rattle.store.specs.Amounts.{entered_of}
 use Rattle.store.specs.Ranged.{SmallDelays}
 use Rattle.store.specs.Sound.{sound_of}
-use Rattle.store.proofs.Laws.Ring.{ring_inside, ring_time, ring_end, ring_back}
+use Rattle.store.proofs.Laws.Ring.{ring_time, ring_end, ring_back}
 use Rattle.store.proofs.Laws.Sound.{ChannelIs, sound_is, offset_most, small_delays}
 use Rattle.slot_rules.specs.Head.{message_with, message_of, logical_of, is_held}
 use Rattle.slot_rules.proofs.Laws.Head.{message_is}
@@ -52,10 +52,6 @@ pub record Looking (w : Store) (x j u n at seen : ℕ) : Type 0 where
   pub place : at ≡ n % ring
   pub same : message_of w x j ≡ message_with w x u n (ring - 1 - seen)
 
-pub found_inside : (w : Store) (x j : ℕ) (found : Found)
-    → found ≡ record { number = message_of w x j; place = message_of w x j % ring } → found.place < ring
-found_inside w x j found e = ring_inside (message_of w x j) found.place (rw e)
-
 module _ {w : Store} {x j u n at seen : ℕ} (o : Looking w x j u n at seen) where
   -- what was found, number and place
   found_is : n ≡ message_of w x j
@@ -90,9 +86,6 @@ module _ {w : Store} {x j u n at seen : ℕ} (o : Looking w x j u n at seen) whe
 module _ (w : Store) (e : sound_of w ≡ true) (x j : ℕ) (h : IsChannel w x) (l : j < hops_of w x) where
   k : ChannelIs w x
   k = (sound_is w e).channel x h
-
-  pub delay_small : delay_of w x j ≤ most_p
-  delay_small = small_delays k (hops_of w x) (omega arith) j l
 
   pub delays_small : SmallDelays w x j
   delays_small = small_delays k j (omega arith)

@@ -9,7 +9,7 @@ use Rattle.store.specs.Layout.{Store, rows_of, row_channel_of, delay_of}
 use Rattle.slot_rules.specs.Pick.{goes_before, better, best_of, row_current, row_early, row_logical, row_deadline, pick_from, pick_of}
 use Rattle.slot_rules.specs.Pick.{row_held}
 use Rattle.slot_pick.specs.declared.Candidate.{Candidate}
-use Rattle.slot_pick.specs.Rows.{goes_first, position_of, Timed}
+use Rattle.slot_pick.specs.Rows.{goes_first, position_of}
 use Rattle.slot_pick.proofs.Rows.{Held, held_logical, held_deadline, due_current, due_early, soon_current, soon_early}
 
 abbrev candidate : (row key channel : ℕ) → Candidate
@@ -101,6 +101,3 @@ module _ {w : Store} {l k : ℕ} {due soon : Option Candidate} (a : Choosing w l
   pub choosing_done : k ≡ rows_of w l → pick_of w l ≡ pick_from w l (position_of due) (position_of soon)
   unfolding pick_of
   choosing_done e = rw (pick_of, rw e at a.current.best_is, rw e at a.early.best_is)
-
-  pub choosing_timed : Timed w l soon
-  choosing_timed = a.early.key_is

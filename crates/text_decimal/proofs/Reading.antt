@@ -35,9 +35,6 @@ module _ (word : Text) where
   pub number_empty : length word ≡ 0 → None ≡ number_of word
   number_empty e = number_none (λ n. omega (arith, number_length word n))
 
-  pub valued_none : Valued word 0 0
-  valued_none = record { fits = omega arith; digits = refl; said = refl }
-
   module _ (i value : ℕ) (r : Valued word i value) where
     pub valued_done : 1 ≤ length word → length word ≤ i → Some value ≡ number_of word
     unfolding all_digits value_from

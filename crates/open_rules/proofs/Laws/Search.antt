@@ -77,13 +77,6 @@ module _ (f : ℕ → Bool) (n : ℕ) where
   pub falling_none : (q : ℕ) → q ≡ n → Falling f n q
   falling_none q e = record { place = omega arith; all = λ k a b. absurd (omega arith) }
 
-  pub falling_more : (q : ℕ) → Falling f n q → 0 < q → f (q - 1) ≡ true → Falling f n (q - 1)
-  falling_more q g h e =
-      record {
-        place = omega (arith, g.place);
-        all = λ k a b. below (q - 1) k (omega arith) (λ c. g.all k (omega arith) b) (λ c. rw c at e);
-      }
-
   pub falling_stop : (q : ℕ) → Falling f n q → 0 < q → f (q - 1) ≡ false → q ≡ smallest f n
   falling_stop q g h e =
       let i : q ≡ suc (q - 1) = omega arith in

@@ -21,7 +21,7 @@ use Rattle.kinds.specs.Ranges.{in_range_c, in_range_p, most_c, most_p}
 use Rattle.kinds.proofs.Laws.{within_true}
 use Rattle.response.specs.declared.Row.{Row}
 use Rattle.response.specs.Need.{ceil, Spaced}
-use Rattle.response.specs.Numbers.{rows_in, row_in_range, rows_in_range, roomy, Workable}
+use Rattle.response.specs.Numbers.{rows_in, row_in_range, rows_in_range, roomy}
 use Rattle.response.proofs.Laws.Need.{ceil_self}
 
 -- the row whose C stands at place `at`
@@ -86,9 +86,6 @@ pub record Adding (total : List Row → ℕ) (most : ℕ) (t : List ℕ) (own su
   pub ranged : rows_in_range (rows_in rest) ≡ true
 
 module _ {total : List Row → ℕ} {most : ℕ} {t : List ℕ} {own : ℕ} where
-  pub adding_none : Workable t own → Adding total most t own own t
-  adding_none w = record { whole = refl; bound = omega (arith, w.small); ranged = w.ranged }
-
   module _ {sum : ℕ} {s : List ℕ} (a : Adding total most t own sum s) where
     module _ (x rest : List ℕ) (e : s ≡ x ++ rest) (h : length x ≡ 3) where
       next : (row_in_range (row_at x 0) ≡ true) × (rows_in_range (rows_in rest) ≡ true)
