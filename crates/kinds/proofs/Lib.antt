@@ -1,1 +1,2 @@
 pub mod Laws
+mod Figures
