@@ -4,7 +4,7 @@
 ghost use Rattle.std.specs.Prelude.{◌≡◌, ◌+◌, ◌*◌, ◌<◌, ◌≤◌, length, SomeIff};
 ghost use Rattle.text_decimal.specs.Decimal.{decimal, too_large};
 ghost use Rattle.text_decimal.specs.Put.{put_at};
-ghost use Rattle.text_decimal.specs.Word.{first_word, number_in, number_of};
+ghost use Rattle.text_decimal.specs.Word.{first_word, number_in};
 
 // A number that was read, and where the text goes on after it.
 #[derive(Clone, Copy)]
@@ -29,35 +29,28 @@ fn extended(value: u64, digit: u8) -> Option<u64>
     value.checked_mul(10)?.checked_add(u64::from(digit))
 }
 
-// The number that a word is.
-#[tactic(auto, using(crate::proofs::Reading::valued))]
-fn number_of(word: &[u8]) -> Option<u64>
-    ensures { result ≡ number_of word.now }
-{
-    if word.is_empty() {
-        return None;
-    }
-    let mut value: u64 = 0;
-    for byte in word {
-        if !byte.is_ascii_digit() {
-            return None;
-        }
-        value = extended(value, byte - b'0')?;
-    }
-    Some(value)
-}
-
-// The number that stands at `from`, up to the next space or the end of the text.
+// The number that stands at `from`, up to the next space or the end of the text. It looks no further than the first byte that
+// rules a number out.
 pub fn read(text: &[u8], from: usize) -> Option<Number>
     ensures { result ≡ number_in text.now from }
 {
     let rest = text.get(from..)?;
-    let word = &rest[..word_end(rest)];
-    let value = number_of(word)?;
-    Some(Number {
-        value,
-        end: from + word.len(),
-    })
+    let mut value: u64 = 0;
+    let mut end = from;
+    for byte in rest {
+        if *byte == b' ' {
+            break;
+        }
+        if !byte.is_ascii_digit() {
+            return None;
+        }
+        value = extended(value, byte - b'0')?;
+        end += 1;
+    }
+    if end == from {
+        return None;
+    }
+    Some(Number { value, end })
 }
 
 // How many digits a number has.

@@ -1,28 +1,47 @@
--- `text_decimal::read` meets its contract: it reads the word that stands at `from`.
-use Rattle.std.proofs.Common.{arith, length, take, ◌≡◌, ◌∙◌, sym}
-use Rattle.std.proofs.Math.Seq.{length-take-le}
+-- `text_decimal::read` meets its contract: what is read so far, and then one byte more.
+use Rattle.std.proofs.Common.{arith, length, ◌∙◌, inl, inr}
 use Rattle.std.proofs.lemmas.Slice.{between_to_end}
-use Rattle.text_decimal.specs.Word.{word_at}
-use Rattle.text_decimal.proofs.Laws.Word.{word_front, word_most}
-use Rattle.text_decimal.proofs.Reading.{none_past, none_at, some_at}
+use Rattle.text_decimal.proofs.Reading.{none_past, read_none, read_bad, read_large, read_more, read_nothing, read_value}
 use Rattle.text_decimal.proofs.read.Goals as goal
-use Rattle.text_decimal.proofs.read.Goals.{After-number_of}
+use Rattle.text_decimal.proofs.read.Goals.{Left-loop-byte, else-loop-byte-test, then-loop-byte-test+then-byte-eq32}
 
 pub returns-in_err-rest : goal.returns-in_err-rest
 returns-in_err-rest c = c.from_residual.ensures ∙ none_past _ _ (grind (arith, c.in_err-rest.ensures.lookup))
 
-pub slice_bounds-word-end : goal.slice_bounds-word-end
-slice_bounds-word-end c = sym (length-take-le _ _ (omega (arith, word_most c.in_ok-rest.rest.now)))
+pub loop-byte-init : goal.loop-byte-init
+loop-byte-init c =
+    read_none _ _ _
+    (c.in_ok-rest.ensures.lookup.0.2 ∙ between_to_end c.args.text.now c.args.from (length c.args.text.now) (omega arith))
 
--- the word that is read is the one that stands at `from`
-there : (c : After-number_of) → take c.word_end.result c.in_ok-rest.rest.now ≡ word_at c.args.text.now c.args.from
-there c =
-    let e = between_to_end c.args.text.now c.args.from (length c.args.text.now) (omega arith) in
-    rw (c.word_end.ensures, word_front c.in_ok-rest.rest.now, c.in_ok-rest.ensures.lookup.0.2, e)
+pub returns-then-not-is_ascii_digit : goal.returns-then-not-is_ascii_digit
+returns-then-not-is_ascii_digit c =
+    read_bad _ _ _ _ _ _ c.loop-byte.invariant c.loop-byte-test.true c.if-byte-eq32.false (grind (arith, c.is_ascii_digit.ensures.value))
 
 pub returns-in_err-value : goal.returns-in_err-value
 returns-in_err-value c =
-    c.from_residual-in_err-value.ensures ∙ none_at _ _ _ (there (goal.at.returns-in_err-value c).After-number_of) c.in_err-value.ensures
+    c.from_residual-in_err-value.ensures
+    ∙ read_large _ _ _ _ _ _ c.loop-byte.invariant c.loop-byte-test.true c.if-byte-eq32.false (omega (arith, c.in_err-value.ensures))
+
+pub overflow_add-end : goal.overflow_add-end
+overflow_add-end c = grind (arith, c.loop-byte.invariant.end_is, c.in_ok-rest.ensures.lookup)
+
+pub loop-byte-preserved : goal.loop-byte-preserved
+loop-byte-preserved c =
+    read_more _ _ _ _ _ _ c.loop-byte.invariant c.loop-byte-test.true c.if-byte-eq32.false (grind (arith, c.is_ascii_digit.ensures.value))
+    _ (omega (arith, c.in_ok-value.ensures)) (omega (arith, c.in_ok-value.ensures))
+
+pub returns-then-end-from : goal.returns-then-end-from
+returns-then-end-from c =
+    elim c.loop-byte-test.branch [
+      | else-loop-byte-test w ↦ read_nothing _ _ _ _ _ _ c.loop-byte.invariant (inl w.loop-byte-test.false) c.if-end-from.true
+      | then-loop-byte-test+then-byte-eq32 w ↦
+          read_nothing _ _ _ _ _ _ c.loop-byte.invariant (inr (w.loop-byte-test.true, w.if-byte-eq32.true)) c.if-end-from.true
+    ]
 
 pub returns : goal.returns
-returns c = some_at _ _ _ (there (goal.at.returns c).After-number_of) _ c.in_ok-value.ensures
+returns c =
+    elim c.loop-byte-test.branch [
+      | else-loop-byte-test w ↦ read_value _ _ _ _ _ _ c.loop-byte.invariant (inl w.loop-byte-test.false) c.if-end-from.false
+      | then-loop-byte-test+then-byte-eq32 w ↦
+          read_value _ _ _ _ _ _ c.loop-byte.invariant (inr (w.loop-byte-test.true, w.if-byte-eq32.true)) c.if-end-from.false
+    ]
