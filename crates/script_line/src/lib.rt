@@ -43,12 +43,12 @@ pub fn is_link(line: &[u8]) -> bool
 fn asked(line: &[u8], count: usize) -> Line
     ensures { result ≡ asked (first_word line.now) count }
 {
-    if begins(line, b"link") && count == 4 {
-        Line::Link
-    } else if begins(line, b"open") && count >= 4 {
-        Line::Open(count - 4)
-    } else if begins(line, b"offer") && count == 2 {
-        Line::Offer
+    if begins(line, b"link") {
+        if count == 4 { Line::Link } else { Line::Bad }
+    } else if begins(line, b"open") {
+        if count >= 4 { Line::Open(count - 4) } else { Line::Bad }
+    } else if begins(line, b"offer") {
+        if count == 2 { Line::Offer } else { Line::Bad }
     } else if begins(line, b"tick") && count == 1 {
         Line::Tick
     } else {
