@@ -3,7 +3,6 @@
 
 ghost use Rattle.std.specs.Prelude.{◌≡◌, ◌+◌, ◌≤◌, length};
 ghost use Rattle.text_decimal.specs.Put.{put_at};
-ghost use Rattle.kinds.specs.Refusals.{number_of, place_of};
 ghost use Rattle.open_rules.specs.Open.{open_answer, open_store};
 ghost use Rattle.offer_rules.specs.Offer.{offer_answer, offer_store};
 ghost use Rattle.script_listing.specs.Buffer.{last_for_line};
@@ -11,16 +10,15 @@ ghost use Rattle.script_listing.specs.Listing.{refused_line, bad_line};
 ghost use Rattle.script_line.specs.Line.{most_numbers};
 ghost use Rattle.script_answer.specs.Answer.{request_in, open_out, offer_out, asked_store, asked_out, asks_of};
 
-use kinds::Refusal;
 use script_line::{Line, MOST_NUMBERS};
 use script_listing::BUFFER;
 
-pub fn put_refused(out: &mut [u8], at: usize, refusal: Refusal) -> usize
+pub fn put_refused(out: &mut [u8], at: usize, number: u64, place: u64) -> usize
     requires { at + 50 ≤ length out.old }
-    ensures value { result ≡ at + length (refused_line (number_of refusal) (place_of refusal)) }
-    ensures out_after { out.new ≡ put_at out.old at (refused_line (number_of refusal) (place_of refusal)) }
+    ensures value { result ≡ at + length (refused_line number place) }
+    ensures out_after { out.new ≡ put_at out.old at (refused_line number place) }
 {
-    script_listing::line(out, at, b"refused", &[refusal.number(), refusal.place()])
+    script_listing::line(out, at, b"refused", &[number, place])
 }
 
 pub fn put_bad(out: &mut [u8; BUFFER], at: usize, count: u64) -> usize
@@ -63,7 +61,7 @@ fn open(
             &opening.reserved,
             hops,
         ),
-        Err(refusal) => put_refused(out, at, refusal),
+        Err(why) => put_refused(out, at, why.number(), why.place()),
     }
 }
 
@@ -85,7 +83,7 @@ fn offer(
             let numbers = [channel, accepted.message, accepted.time];
             script_listing::line(out, at, b"accept", &numbers)
         }
-        Err(refusal) => put_refused(out, at, refusal),
+        Err(refusal) => put_refused(out, at, refusal.number(), refusal.place()),
     }
 }
 

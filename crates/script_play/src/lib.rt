@@ -88,7 +88,7 @@ fn set_up(
             }
         }
         Err(refusal) => {
-            let end = script_answer::put_refused(out, at, refusal);
+            let end = script_answer::put_refused(out, at, refusal.number(), refusal.place());
             Played {
                 phase: Phase::Over,
                 next: None,
