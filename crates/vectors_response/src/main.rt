@@ -26,10 +26,12 @@ fn print_all(rt: &impl Print, table: &[u64]) -> io::Result<()> {
 
 fn print_answer(rt: &impl Print, answer: Answer) -> io::Result<()> {
     match answer.response {
-        Some(r) => print_number(rt, b" : response ", r)?,
-        None => rt.write_all(b" : none")?,
+        Some(r) => {
+            print_number(rt, b" : response ", r)?;
+            print_number(rt, b" trials ", answer.trials)
+        }
+        None => print_number(rt, b" : none trials ", answer.trials),
     }
-    print_number(rt, b" trials ", answer.trials)
 }
 
 fn print_reply(rt: &impl Print, reply: Result<Answer, Refusal>) -> io::Result<()> {
