@@ -1,3 +1,4 @@
 pub mod Facts
+mod Steps
 pub mod Outcome
 pub mod Laws

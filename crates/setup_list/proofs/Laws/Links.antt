@@ -6,12 +6,12 @@ use mathlib.Core.List.{List}
 use native.Mathlib.Omega.{arith}
 use lib.ListN.{length}
 use lib.Dec.{leb}
-use borrow.Author.Tests.{leb-true}
+use borrow.Author.Tests.{le-leb, leb-true}
 use Rattle.kinds.specs.Checks.{link_passes}
 use Rattle.folds.proofs.Folds.{every_at}
 use Rattle.setup_list.specs.List.{from_in, to_in, horizon_in, buffer_in, links_in, link_passes_at, links_pass}
 
--- a link that passes stands whole in the numbers, and they are in range
+-- a link that passes stands whole in the numbers, and they are in range; and the other way round
 module _ (numbers : List ℕ) (l : ℕ) where
   pub whole_at : link_passes_at numbers l ≡ true → 4 * l + 4 ≤ length numbers
   unfolding link_passes_at
@@ -21,6 +21,12 @@ module _ (numbers : List ℕ) (l : ℕ) where
       → link_passes (from_in numbers l) (to_in numbers l) (horizon_in numbers l) (buffer_in numbers l) ≡ true
   unfolding link_passes_at
   passes_at e = ((and-eq-true_iff (leb (4 * l + 4) (length numbers)) _).0 e).1
+
+  pub at_passes : 4 * l + 4 ≤ length numbers
+      → link_passes (from_in numbers l) (to_in numbers l) (horizon_in numbers l) (buffer_in numbers l) ≡ true
+      → link_passes_at numbers l ≡ true
+  unfolding link_passes_at
+  at_passes h p = rw (le-leb _ _ h) p
 
 -- links that all pass end with a whole one
 pub pass_whole : (numbers : List ℕ) → links_pass numbers ≡ true → 4 * links_in numbers ≡ length numbers
