@@ -47,7 +47,7 @@ module _ (text : Text) (i value : ℕ) (r : Valued text i value) where
   left = first_word (drop i text)
 
   -- the word ends here: with the text, or at a space
-  ended_text : length text ≤ i → left ≡ []
+  pub ended_text : length text ≤ i → left ≡ []
   unfolding first_word
   ended_text h = rw (drop_of_length-le text {i = i} h)
 
@@ -71,7 +71,7 @@ module _ (text : Text) (i value : ℕ) (r : Valued text i value) where
     at : drop i text ≡ byte ∷ drop (i + 1) text
     at = rw (add-one i) (drop-cons text i 0 here)
 
-    ended_space : byte ≡ space → left ≡ []
+    pub ended_space : byte ≡ space → left ≡ []
     ended_space e = rw at (word_space byte (drop (i + 1) text) (rw e))
 
     module _ (no_space : byte ≡ space → ⊥) where
