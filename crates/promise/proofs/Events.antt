@@ -7,18 +7,17 @@ use native.Mathlib.Omega.{arith}
 use Rattle.schedule.specs.Lists.{Every}
 use Rattle.store.specs.Layout.{Store, IsChannel}
 use Rattle.store_same.proofs.Numbers.{SameNumbers}
-use Rattle.open_rules.specs.declared.Opening.{Opening}
 use Rattle.open_rules.specs.Request.{Request}
 use Rattle.promise_queue.proofs.More.{Longer}
 use Rattle.promise_view.specs.View.{Accepted}
-use Rattle.promise.specs.Calls.{Event}
+use Rattle.promise.specs.Calls.{OpenAnswer, Event}
 use Rattle.promise.specs.Promise.{AsOpened}
 use Rattle.promise.specs.Calls.Event.{opened, accepted, sent}
 use Rattle.promise.proofs.Invariant.{IsMessage, EventIs}
 
 module _ {w w' : Store} {all all' : Accepted} (same : (x : ℕ) → IsChannel w x → SameNumbers w w' x)
     (longer : (x : ℕ) → IsChannel w x → Longer (all x) (all' x)) where
-  opened_stays : (x : ℕ) (q : Request) (answer : Opening) → AsOpened w x q answer → AsOpened w' x q answer
+  opened_stays : (x : ℕ) (q : Request) (answer : OpenAnswer) → AsOpened w x q answer → AsOpened w' x q answer
   opened_stays x q answer o =
       let s = same x o.number in
       record {

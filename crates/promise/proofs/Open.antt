@@ -21,7 +21,7 @@ use Rattle.promise_open.proofs.Steady.{open_steady}
 use Rattle.promise_open.proofs.Bounds.{open_near, open_in_burst, open_within}
 use Rattle.promise_sends.proofs.Open.{none_logged, open_logged}
 use Rattle.promise_queue.proofs.More.{as_long}
-use Rattle.promise.specs.Calls.{Event}
+use Rattle.promise.specs.Calls.{Event, open_numbered}
 use Rattle.promise.specs.Happened.{packets_in, sends_in}
 use Rattle.promise.specs.Promise.{AsOpened}
 use Rattle.promise.specs.Calls.Event.{opened}
@@ -54,7 +54,7 @@ module _ {links : List ℕ} {w : Store} {h : List Event} (i : Invariant links w 
   w' = open_store w q
 
   abbrev one : List Event
-  one = opened n q (open_answer w q) ∷ []
+  one = opened n q (open_numbered (open_answer w q)) ∷ []
 
   g : Granted w q n
   g = granted q n a
@@ -69,7 +69,7 @@ module _ {links : List ℕ} {w : Store} {h : List Event} (i : Invariant links w 
   unfolding sends_in
   same_sends = sends_on_lem h one ∙ append-nil (sends_in h)
 
-  new : AsOpened w' n q (open_answer w q)
+  new : AsOpened w' n q (open_numbered (open_answer w q))
   unfolding open_answer
   new = record {
     number = omega (arith, g.channels);
@@ -83,7 +83,7 @@ module _ {links : List ℕ} {w : Store} {h : List Event} (i : Invariant links w 
     reserved_is = λ j l. rw (a, eight_at (reserved_for w q) (hops q) j l g.hops_most) (g.reserved_is j l);
   }
 
-  pub open_keeps : Invariant links (open_store w q) (h ++ (opened n q (open_answer w q) ∷ []))
+  pub open_keeps : Invariant links (open_store w q) (h ++ (opened n q (open_numbered (open_answer w q)) ∷ []))
   open_keeps = record {
     network = network_kept i.seen.sound.counts.links_most g.network i.network;
     seen = rw same_messages (open_seen i.seen q n a);
@@ -101,7 +101,11 @@ module _ {links : List ℕ} {w : Store} {h : List Event} (i : Invariant links w 
         (λ x k. as_long (messages_in h x) (messages_in h x) refl) h i.events) (new, tt));
     known = λ x k. below x n (rw g.channels at k)
         (λ l. still_opened h one x (i.known x (rw (← g.number) l)))
-        (λ e. rw e (record { request = q; answer = open_answer w q; there = Memᴰ.append_right h (Memᴰ.head refl) }));
+        (λ e. rw e (record {
+          request = q;
+          answer = open_numbered (open_answer w q);
+          there = Memᴰ.append_right h (Memᴰ.head refl);
+        }));
   }
     where
       fresh : (j : ℕ) → j < hops_of w' (channels_of w) → sent_of w' (channels_of w) j ≡ 0

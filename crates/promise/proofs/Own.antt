@@ -14,18 +14,17 @@ use Rattle.store.specs.Sound.{sound_of}
 use Rattle.store.proofs.Laws.Sound.{is_sound}
 use Rattle.checks.specs.Checks.{first_failed}
 use Rattle.schedule.specs.Messages.{Message}
-use Rattle.open_rules.specs.declared.Opening.{Opening}
 use Rattle.open_rules.specs.Request.{Request}
 use Rattle.offer_rules.specs.Offer.{offer_time, in_burst, offered, offer_answer}
 use Rattle.promise_offer.proofs.Time.{offer_time_first, offer_time_next}
 use Rattle.promise_offer.proofs.Seen.{offer_sound}
-use Rattle.promise.specs.Calls.{Event}
+use Rattle.promise.specs.Calls.{OpenAnswer, Event, numbered}
 use Rattle.promise.specs.Happened.{times_in}
 use Rattle.promise.specs.Promise.{own_time, own_answer, AsOpened}
 use Rattle.promise.proofs.History.{messages_in, times_are, own_first, own_next}
 use Rattle.promise.proofs.Invariant.{Invariant}
 
-module _ {links : List ℕ} {w : Store} {h : List Event} (i : Invariant links w h) (x : ℕ) (q : Request) (answer : Opening)
+module _ {links : List ℕ} {w : Store} {h : List Event} (i : Invariant links w h) (x : ℕ) (q : Request) (answer : OpenAnswer)
     (o : AsOpened w x q answer) (packets : ℕ) where
   abbrev ms : List Message
   ms = messages_in h x
@@ -69,12 +68,12 @@ module _ {links : List ℕ} {w : Store} {h : List Event} (i : Invariant links w 
         burst = g;
       }) i.steady i.burst
 
-  pub own_answer_lem : offer_answer w x packets ≡ own_answer q (times_in h x) packets (clock_of w)
+  pub own_answer_lem : numbered (offer_answer w x packets) ≡ own_answer q (times_in h x) packets (clock_of w)
   unfolding offer_answer own_answer first_failed
   own_answer_lem = go (ltb (clock_of w) end_slot) (within 1 q.c packets) (in_burst w x) refl refl refl
     where
       go : (a b d : Bool) → ltb (clock_of w) end_slot ≡ a → within 1 q.c packets ≡ b → in_burst w x ≡ d
-          → offer_answer w x packets ≡ own_answer q (times_in h x) packets (clock_of w)
+          → numbered (offer_answer w x packets) ≡ own_answer q (times_in h x) packets (clock_of w)
       go false b d e f g = rw (is_sound w i.seen.sound, e)
       go true false d e f g = rw (is_sound w i.seen.sound, e, known, size_is, f)
       go true true false e f g = rw (is_sound w i.seen.sound, e, known, size_is, f, g, ← burst_is, g)

@@ -14,6 +14,7 @@ use Rattle.kinds.specs.Refusals.{number_of}
 use Rattle.offer_rules.specs.declared.Accepted.{Accepted}
 use Rattle.store.specs.Layout.{Store, channels_of, clock_of}
 use Rattle.store.proofs.Laws.Sound.{is_sound}
+use Rattle.setup.specs.SetUp.{set_up_answer}
 use Rattle.open_rules.specs.Request.{Request}
 use Rattle.open_rules.specs.Open.{open_outcome, open_answer, open_store}
 use Rattle.offer_rules.specs.Offer.{offer_answer, offer_store}
@@ -25,6 +26,7 @@ use Rattle.open.proofs.Laws.{accepted_number, never_17 as open_never}
 use Rattle.promise_open.proofs.Granted.{open_kept, refused_store as refused_open}
 use Rattle.promise_offer.proofs.Answer.{accepted_is, never_17 as offer_never}
 use Rattle.promise_slot.proofs.Never.{never_17 as slot_never}
+use Rattle.promise.specs.Calls.{refused, numbered, open_numbered}
 use Rattle.promise.specs.Calls.{Call, Event, store_after, events_in, open_events, offer_events, Reached}
 use Rattle.promise.specs.Ours.{ours, Demand3}
 use Rattle.promise.specs.Promise.{NewNumber, Never17, Promise}
@@ -38,7 +40,7 @@ use Rattle.promise.proofs.Network.{fresh_clock}
 use Rattle.promise.proofs.Open.{set_up_makes, open_keeps}
 use Rattle.promise.proofs.Offer.{offer_keeps}
 use Rattle.promise.proofs.Slot.{slot_call}
-use Rattle.promise.proofs.Skip.{skip_keeps, idles, skips as skips_are, idle_never, skip_never}
+use Rattle.promise.proofs.Skip.{number_same, skip_keeps, idles, skips as skips_are, idle_never, skip_never}
 use Rattle.promise.proofs.Slots.{slots}
 use Rattle.promise.proofs.Own.{own_answer_lem}
 use Rattle.promise.proofs.Arrives.{never_late, arrives}
@@ -69,6 +71,16 @@ is_17 (BadLinks place) e = absurd (omega arith)
 is_17 NotSound e = refl
 is_17 BadTable e = absurd (omega arith)
 
+-- An answer of ours whose refusal has the number 17; one that is no refusal.
+module _ {A : Type 0} where
+  was_17 : (a : Result A Refusal) (place : ℕ) → numbered a ≡ refused 17 place → a ≡ Err NotSound
+  was_17 (Ok x) place e = absurd (let y : ◌≡◌ {A = ℕ} 0 1 = cc in omega arith)
+  was_17 (Err refusal) place e = rw (is_17 refusal (number_same e))
+
+  was_ok : (a : Result A Refusal) (x : A) → numbered a ≡ Ok x → a ≡ Ok x
+  was_ok (Ok y) x e = let z : y ≡ x = cc in rw z
+  was_ok (Err refusal) x e = absurd (let y : ◌≡◌ {A = ℕ} 0 1 = cc in omega arith)
+
 module _ {links : List ℕ} {w : Store} {h : List Event} (i : Invariant links w h) where
   -- each call; a refused one changes nothing
   open_call : (q : Request) → Invariant links (store_after ours (opens q) w) (h ++ events_in ours (opens q) w)
@@ -76,7 +88,7 @@ module _ {links : List ℕ} {w : Store} {h : List Event} (i : Invariant links w 
   open_call q = go (open_outcome w q) (open_answer w q).outcome refl (outcome_is w q)
     where
       go : (o o' : Result ℕ Refusal) → open_outcome w q ≡ o → o' ≡ o
-          → Invariant links (open_store w q) (h ++ open_events o' q (open_answer w q))
+          → Invariant links (open_store w q) (h ++ open_events (numbered o') q (open_numbered (open_answer w q)))
       go (Ok n) o' e f = rw f (open_keeps i q n e)
       go (Err refusal) o' e f = rw (refused_open w q refusal e, f, append-nil h) i
 
@@ -86,7 +98,7 @@ module _ {links : List ℕ} {w : Store} {h : List Event} (i : Invariant links w 
   offer_call x packets = go (offer_answer w x packets) refl
     where
       go : (a : Result Accepted Refusal) → offer_answer w x packets ≡ a
-          → Invariant links (offer_store w x packets) (h ++ offer_events (offer_answer w x packets) x packets)
+          → Invariant links (offer_store w x packets) (h ++ offer_events (numbered (offer_answer w x packets)) x packets)
       go (Ok a) e = rw e (offer_keeps i x packets a e)
       go (Err refusal) e = rw (refused_offer w x packets refusal e, e, append-nil h) i
 
@@ -120,13 +132,13 @@ module _ {links : List ℕ} {w : Store} {h : List Event} (i : Invariant links w 
 
   new_number : NewNumber ours links w h
   new_number q x e o =
-      let number : x ≡ channels_of w = accepted_number w q x (sym (outcome_is w q) ∙ e) in
+      let number : x ≡ channels_of w = accepted_number w q x (sym (outcome_is w q) ∙ was_ok (open_answer w q).outcome x e) in
       omega (arith, number, known i o)
 
   never_17 : Never17 ours links w h
   never_17 = (
-    (λ q e. open_never w q (is_sound w i.seen.sound) (sym (outcome_is w q) ∙ e)),
-    (offer_never i.seen i.steady i.burst),
+    (λ q place e. open_never w q (is_sound w i.seen.sound) (sym (outcome_is w q) ∙ was_17 (open_answer w q).outcome place e)),
+    (λ x packets place e. offer_never i.seen i.steady i.burst x packets (was_17 (offer_answer w x packets) place e)),
     (λ size e. slot_number_lem size (slot_turn w size) refl (omega (arith, e))),
     idle_never i,
     skip_never i,
@@ -134,7 +146,7 @@ module _ {links : List ℕ} {w : Store} {h : List Event} (i : Invariant links w 
 
 -- the invariant of every store that is reached
 holds : (links : List ℕ) (w : Store) (h : List Event) → Reached ours links w h → Invariant links w h
-holds links w h (fresh w₀ e) = set_up_makes w₀ links e
+holds links w h (fresh w₀ e) = set_up_makes w₀ links (was_ok (set_up_answer w₀ links) tt e)
 holds links w h (next w₀ h₀ r y) = any_call (holds links w₀ h₀ r) y
 
 all_holds : (links : List ℕ) (w : Store) (h : List Event) → Reached ours links w h → Promise ours links w h
@@ -162,4 +174,4 @@ all_holds links w h r =
     }
 
 pub promise : Demand3
-promise = record { starts = fresh_clock; holds = all_holds }
+promise = record { starts = λ w links e. fresh_clock w links (was_ok (set_up_answer w links) tt e); holds = all_holds }

@@ -2,13 +2,12 @@
 use Rattle.std.specs.Prelude.{ℕ, zero, suc, ◌+◌, true, false, List, [], ◌∷◌, ◌++◌, eqb, length, take, drop}
 use Rattle.store.specs.Layout.{number_at}
 use Rattle.folds.specs.Folds.{sum_to}
-use Rattle.open_rules.specs.declared.Opening.{Opening}
 use Rattle.open_rules.specs.Request.{Request, hops, link}
 use Rattle.slot_rules.specs.Slot.{Send}
 use Rattle.schedule.specs.Lists.{◌∈◌}
 use Rattle.promise_queue.specs.Keep.{keep}
 use Rattle.promise_sends.specs.Sends.{is_on}
-use Rattle.promise.specs.Calls.{Event}
+use Rattle.promise.specs.Calls.{OpenAnswer, Event}
 use Rattle.promise.specs.Calls.Event.{opened, accepted, sent}
 
 -- a packet: its message and its number there, both from 0, and the logical time of the message at the source
@@ -54,7 +53,7 @@ sends_on h x l = keep (is_on x l) (sends_in h)
 -- the open of channel x: what was asked for, and what was answered
 pub record WasOpened (h : List Event) (x : ℕ) : Type 0 where
   pub request : Request
-  pub answer : Opening
+  pub answer : OpenAnswer
   pub there : opened x request answer ∈ h
 
 -- Places j are those of the route that was asked for; there are `places`.

@@ -4,8 +4,7 @@
 -- clock; and that the store says the same. That our library keeps it is `promise` in proofs/Promise.antt.
 use Rattle.std.specs.declared.result.Result.{Result}
 use Rattle.std.specs.declared.result.Result.TheVariants.{Ok, Err}
-use Rattle.kinds.specs.declared.Refusal.{Refusal}
-use Rattle.kinds.specs.declared.Refusal.TheVariants.{MessageLength, Burst, EndSlot, NotSound}
+use Rattle.kinds.specs.declared.Refusal.TheVariants.{MessageLength, Burst, EndSlot}
 use Rattle.offer_rules.specs.declared.Accepted.{Accepted}
 use Rattle.std.specs.Prelude.{ℕ, zero, suc, ◌+◌, ◌-◌, ◌*◌, ◌≤◌, ◌<◌, max, ◌≡◌, Bool, ◌⊎◌, List, [], ◌∷◌, map, eqb, leb, ltb, length, take}
 use Rattle.kinds.specs.Ranges.{within, end_slot}
@@ -16,13 +15,12 @@ use Rattle.store.specs.Amounts.{reserved_of}
 use Rattle.store.specs.Sound.{row_reserved_of}
 use Rattle.checks.specs.Checks.{check, first_failed}
 use Rattle.setup_list.specs.List.{links_in, from_in, to_in, horizon_in, buffer_in}
-use Rattle.open_rules.specs.declared.Opening.{Opening}
 use Rattle.open_rules.specs.Request.{Request, hops, link}
 use Rattle.slot_rules.specs.Slot.{Send}
 use Rattle.schedule.specs.Lists.{Every, ◌∈◌}
 use Rattle.promise_queue.specs.Keep.{keep}
 use Rattle.promise_sends.specs.Sends.{is_message, name_of as name_sent}
-use Rattle.promise.specs.Calls.{Library, Event, Reached}
+use Rattle.promise.specs.Calls.{Refused, refused, numbered, OpenAnswer, Library, Event, Reached}
 use Rattle.promise.specs.Calls.Event.{accepted}
 use Rattle.promise.specs.Happened.{Packet, name_of, packets_of, packets_in, times_in, WasOpened, places, link_at, sends_at}
 use Rattle.promise.specs.Happened.{held_at, logical_at, deadline_at}
@@ -152,9 +150,9 @@ module _ (lib : Library) (links : List ℕ) (w : Store) (h : List Event) where
   slots_run (suc n) = lib.slot_store (slots_run n) (5 * links_in links)
 
   -- The answer to a wait is so many slots, each of which runs and sends nothing; or 14, at the end slot.
-  pub record Rests (answer : Result ℕ Refusal) : Type 0 where
+  pub record Rests (answer : Result ℕ Refused) : Type 0 where
     pub count : ℕ
-    pub told : (answer ≡ Ok count) ⊎ ((end_slot ≤ clock_of w) × (answer ≡ Err EndSlot))
+    pub told : (answer ≡ Ok count) ⊎ ((end_slot ≤ clock_of w) × (answer ≡ refused 14 0))
     pub runs : (n : ℕ) → n < count → lib.slot_number (slots_run n) (5 * links_in links) ≡ 0
     pub silent : (n : ℕ) → n < count → lib.slot_sent (slots_run n) (5 * links_in links) ≡ []
 
@@ -166,11 +164,11 @@ module _ (lib : Library) (links : List ℕ) (w : Store) (h : List Event) where
 
   -- 8. 17 is never given, whatever is asked
   abbrev pub Never17 : Type 0
-  Never17 = ((q : Request) → (lib.open_answer w q).outcome ≡ Err NotSound → ⊥)
-      × ((x packets : ℕ) → lib.offer_answer w x packets ≡ Err NotSound → ⊥)
+  Never17 = ((q : Request) (place : ℕ) → (lib.open_answer w q).outcome ≡ refused 17 place → ⊥)
+      × ((x packets place : ℕ) → lib.offer_answer w x packets ≡ refused 17 place → ⊥)
       × ((size : ℕ) → lib.slot_number w size ≡ 17 → ⊥)
-      × (lib.idle_answer w ≡ Err NotSound → ⊥)
-      × ((slots : ℕ) → lib.skip_answer w slots ≡ Err NotSound → ⊥)
+      × ((place : ℕ) → lib.idle_answer w ≡ refused 17 place → ⊥)
+      × ((slots place : ℕ) → lib.skip_answer w slots ≡ refused 17 place → ⊥)
 
   -- 9. A channel that is opened gets a number that none has.
   abbrev pub NewNumber : Type 0
@@ -184,12 +182,13 @@ own_time p now [] = now
 own_time p now (last ∷ []) = max now (last + p)
 own_time p now (time ∷ (then ∷ times)) = own_time p now (then ∷ times)
 
-unfoldable pub own_answer : (q : Request) → (times : List ℕ) → (packets now : ℕ) → Result Accepted Refusal
+unfoldable pub own_answer : (q : Request) → (times : List ℕ) → (packets now : ℕ) → Result Accepted Refused
 own_answer q times packets now =
-    first_failed Err
+    numbered
+    (first_failed Err
     (check EndSlot (ltb now end_slot)
     ∷ (check MessageLength (within 1 q.c packets) ∷ (check Burst (leb (own_time q.p now times - now) ((q.b - 1) * q.p)) ∷ [])))
-    (Ok (record { message = length times; time = own_time q.p now times }))
+    (Ok (record { message = length times; time = own_time q.p now times })))
 
 abbrev pub OwnRule : Library → Store → List Event → Type 0
 OwnRule lib w h = (x : ℕ) (o : WasOpened h x) (packets : ℕ)
@@ -211,7 +210,7 @@ pub record AsSetUp (links : List ℕ) (w : Store) : Type 0 where
   pub buffer_is : (l : ℕ) → l < links_in links → buffer_of w l ≡ buffer_in links l
 
 -- A channel's numbers are what its open asked for and was answered.
-pub record AsOpened (w : Store) (x : ℕ) (q : Request) (answer : Opening) : Type 0 where
+pub record AsOpened (w : Store) (x : ℕ) (q : Request) (answer : OpenAnswer) : Type 0 where
   pub number : IsChannel w x
   pub c_is : c_of w x ≡ q.c
   pub p_is : p_of w x ≡ q.p

@@ -11,7 +11,6 @@ use lib.ListN.{length, replicate}
 use borrow.Author.Tests.{ltb-true, leb-true, eqb-false, not-true}
 use Rattle.std.specs.declared.result.Result.{Result}
 use Rattle.std.specs.declared.result.Result.TheVariants.{Ok, Err}
-use Rattle.kinds.specs.declared.Refusal.{Refusal}
 use Rattle.kinds.specs.Ranges.{end_slot}
 use Rattle.folds.specs.Folds.{some}
 use Rattle.folds.proofs.Folds.{Holding, some_at}
@@ -20,7 +19,7 @@ use Rattle.store.specs.Layout.{Store, store_length, clock_of}
 use Rattle.setup_list.specs.List.{links_in}
 use Rattle.slot_rules.specs.Slot.{Send}
 use Rattle.promise_queue.specs.Keep.{keep}
-use Rattle.promise.specs.Calls.{Library, Call, Event, store_after, events_in, Reached}
+use Rattle.promise.specs.Calls.{Refused, Library, Call, Event, store_after, events_in, Reached}
 use Rattle.promise.specs.Calls.Event.{opened, accepted, sent}
 use Rattle.promise.specs.Calls.Reached.{fresh, next}
 use Rattle.promise.specs.Happened.{Packet, WasOpened, places, held_at, deadline_at}
@@ -133,7 +132,7 @@ module _ (lib : Library) (links : List ℕ) where
   reached w h [] r = r
   reached w h (call ∷ rest) r = reached (store_after lib call w) (h ++ events_in lib call w) rest (next w h r call)
 
-  ready : (a : Result (Unit {0}) Refusal) → is_ready a ≡ true → a ≡ Ok tt
+  ready : (a : Result (Unit {0}) Refused) → is_ready a ≡ true → a ≡ Ok tt
   ready (Ok ran) e = refl
   ready (Err refusal) e = absurd (let z : ◌≡◌ {A = ℕ} 0 1 = cc in omega arith)
 

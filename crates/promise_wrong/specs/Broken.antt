@@ -1,7 +1,6 @@
 -- A test that can be run: the promise is broken after these calls.
 use Rattle.std.specs.declared.result.Result.{Result}
 use Rattle.std.specs.declared.result.Result.TheVariants.{Ok, Err}
-use Rattle.kinds.specs.declared.Refusal.{Refusal}
 use Rattle.std.specs.Prelude.{ℕ, suc, ◌*◌, Bool, true, false, ◌&&◌, not, ◌||◌, List, [], ◌∷◌, ◌++◌, refl, eqb, leb, ltb, length, replicate}
 use mathlib.Core.List.Memᴰ
 use Rattle.kinds.specs.Ranges.{end_slot}
@@ -10,7 +9,7 @@ use Rattle.store.specs.Layout.{Store, store_length, clock_of}
 use Rattle.setup_list.specs.List.{links_in}
 use Rattle.schedule.specs.Lists.{◌∈◌}
 use Rattle.promise_queue.specs.Keep.{keep}
-use Rattle.promise.specs.Calls.{Library, Call, Event, store_after, events_in}
+use Rattle.promise.specs.Calls.{Refused, Library, Call, Event, store_after, events_in}
 use Rattle.promise.specs.Calls.Event.{opened, accepted, sent}
 use Rattle.promise.specs.Happened.{Packet, WasOpened, places, held_at, deadline_at}
 use Rattle.promise.specs.Promise.{is_link}
@@ -20,7 +19,7 @@ pub record State : Type 0 where
   pub store : Store
   pub events : List Event
 
-abbrev pub is_ready : Result (Unit {0}) Refusal → Bool
+abbrev pub is_ready : Result (Unit {0}) Refused → Bool
 is_ready (Ok ready) = true
 is_ready (Err refusal) = false
 

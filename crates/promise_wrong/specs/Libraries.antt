@@ -8,18 +8,17 @@ use Rattle.store.specs.Layout.{Store, links_of, channels_of, clock_of, rows_of, 
 use Rattle.store.specs.Layout.{with_clock}
 use Rattle.store.specs.Layout.{with_sent}
 use Rattle.store.specs.Amounts.{reserved_along}
-use Rattle.open_rules.specs.declared.Opening.{Opening}
 use Rattle.open_rules.specs.Request.{Request, hops, link}
 use Rattle.open_rules.specs.Shares.{eight}
 use Rattle.open_rules.specs.Join.{channel_written, rows_joined}
-use Rattle.open_rules.specs.Open.{open_outcome, open_answer, open_store}
+use Rattle.open_rules.specs.Open.{open_outcome, open_store}
 use Rattle.slot_rules.specs.Pick.{row_held}
 use Rattle.slot_rules.specs.Slot.{Send, send_at, slot_turn, slot_sent, slot_store, moved_to}
-use Rattle.promise.specs.Calls.{Library}
+use Rattle.promise.specs.Calls.{OpenAnswer, Library}
 use Rattle.promise.specs.Ours.{ours}
 
 -- ours with another open and another slot; with another slot alone
-abbrev with_calls : (answer : Store → Request → Opening) → (opened : Store → Request → Store)
+abbrev with_calls : (answer : Store → Request → OpenAnswer) → (opened : Store → Request → Store)
     → (sends : Store → (size : ℕ) → List Send) → (moved : Store → (size : ℕ) → Store) → Library
 with_calls answer opened sends moved = record {
   set_up_answer = ours.set_up_answer;
@@ -37,7 +36,7 @@ with_calls answer opened sends moved = record {
 }
 
 abbrev with_slot : (sends : Store → (size : ℕ) → List Send) → (moved : Store → (size : ℕ) → Store) → Library
-with_slot = with_calls open_answer open_store
+with_slot = with_calls ours.open_answer ours.open_store
 
 -- a slot that runs only moves the clock
 abbrev only_clock : Result (Unit {0}) Refusal → Store → Store
@@ -98,8 +97,8 @@ abbrev pub sends_all_at_once : Library
 sends_all_at_once = with_slot (λ w size. sends_on (slot_turn w size) w) (λ w size. store_on (slot_turn w size) w)
 
 -- "one that accepts all": where ours refuses, the channel gets p as its delay on every link
-abbrev any_answer : Result ℕ Refusal → Store → Request → Opening
-any_answer (Ok channel) w q = open_answer w q
+abbrev any_answer : Result ℕ Refusal → Store → Request → OpenAnswer
+any_answer (Ok channel) w q = ours.open_answer w q
 any_answer (Err refusal) w q = record {
   outcome = Ok (channels_of w);
   responses = replicate 8 0;
