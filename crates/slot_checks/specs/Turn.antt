@@ -11,3 +11,8 @@ use Rattle.slot_pick.specs.Picks.{picks_to}
 
 abbrev pub turn_picks : Store → (size : ℕ) → Result (List (Option ℕ)) Refusal
 turn_picks w size = first_failed Err (slot_checks w size) (Ok (picks_to w (links_of w)))
+
+-- how the slot ends, without the picks
+abbrev pub without_picks : Result (List (Option ℕ)) Refusal → Result (Unit {0}) Refusal
+without_picks (Ok picks) = Ok tt
+without_picks (Err refusal) = Err refusal

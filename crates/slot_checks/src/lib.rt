@@ -5,7 +5,8 @@ ghost use Rattle.std.specs.Prelude.{◌≡◌, ◌<◌};
 ghost use Rattle.store.specs.Layout.{links_of, hops_of, IsChannel};
 ghost use Rattle.folds.specs.Folds.{every};
 ghost use Rattle.slot_keeps.specs.Room.{leaves as leaves_at, takes_packet, room_after};
-ghost use Rattle.slot_checks.specs.Turn.{turn_picks};
+ghost use Rattle.slot_rules.specs.Slot.{slot_turn};
+ghost use Rattle.slot_checks.specs.Turn.{turn_picks, without_picks};
 
 use kinds::{Network, Refusal, Slot};
 use slot_pick::Picked;
@@ -63,9 +64,10 @@ fn fits(picked: &Picked) -> bool
 
 // What the links have picked, where the slot runs; or why it does not: checks 17, 14, 15 and 17, in this order. The output has
 // `size` numbers.
-#[tactic(auto, using(slot_rules::proofs::Laws::Ready::ready, slot_keeps::proofs::Sound::moved_sound), unfolding(checks::specs::Checks::first_failed))]
+#[tactic(auto, using(slot_rules::proofs::Laws::Ready::ready, slot_keeps::proofs::Sound::moved_sound), unfolding(slot_rules::specs::Slot::slot_turn, checks::specs::Checks::first_failed))]
 pub fn turn(store: &[u64], size: usize) -> Result<[Option<usize>; Network::MOST_LINKS], Refusal>
-    ensures { result ≡ turn_picks store.now size }
+    ensures picked { result ≡ turn_picks store.now size }
+    ensures turned { without_picks result ≡ slot_turn store.now size }
 {
     let sound = sound::check(store).ok_or(Refusal::NotSound)?;
     if sound.clock() >= Slot::END {
