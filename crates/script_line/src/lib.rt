@@ -46,7 +46,11 @@ fn asked(line: &[u8], count: usize) -> Line
     if begins(line, b"link") {
         if count == 4 { Line::Link } else { Line::Bad }
     } else if begins(line, b"open") {
-        if count >= 4 { Line::Open(count - 4) } else { Line::Bad }
+        if count >= 4 {
+            Line::Open(count - 4)
+        } else {
+            Line::Bad
+        }
     } else if begins(line, b"offer") {
         if count == 2 { Line::Offer } else { Line::Bad }
     } else if begins(line, b"tick") && count == 1 {
