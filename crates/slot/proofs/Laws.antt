@@ -1,5 +1,5 @@
 -- What a slot says of the store and the output that it leaves, for the crates above.
-use Rattle.std.proofs.Common.{ℕ, ◌*◌, ◌≤◌, ◌<◌, ◌≡◌, refl, sym, true, List, length, take, arith}
+use Rattle.std.proofs.Common.{ℕ, ◌*◌, ◌≤◌, ◌<◌, ◌≡◌, ◌∙◌, refl, true, List, length, take, arith}
 use mathlib.Core.Logic.{◌⊎◌, inl, inr}
 use lib.Seq.{take_at}
 use borrow.Author.Tests.{leb-true, ltb-true}
@@ -11,11 +11,11 @@ use Rattle.kinds.specs.declared.Refusal.{Refusal}
 use Rattle.kinds.specs.declared.Refusal.TheVariants.{EndSlot, OutShort, NotSound}
 use Rattle.store.specs.Layout.{Store, links_of, clock_of}
 use Rattle.store.specs.Sound.{sound_of}
-use Rattle.checks.proofs.Laws.{AllHold, accepted_all, all_passed, refused_one, refused_as}
+use Rattle.checks.proofs.Laws.{AllHold, accepted_all, all_passed, refused_one}
 use Rattle.slot_rules.specs.Slot.{Send, numbers, slot_sends, slot_checks, slot_turn, slot_sent, slot_store, slot_out}
 use Rattle.slot_rules.proofs.Laws.Sends.{numbers_length, sends_most, written_none}
 use Rattle.slot_pick.specs.Picks.{picks_to, Picks}
-use Rattle.slot_checks.specs.Turn.{turn_picks}
+use Rattle.slot_checks.specs.Left.{picks_left}
 
 -- "slot 17, 14, 15"
 abbrev pub Refuses : Refusal → Type 0
@@ -44,6 +44,12 @@ module _ (w : Store) (size : ℕ) where
     sends_fit : 5 * length (slot_sends w) ≤ size
     sends_fit = omega (arith, ran_room, sends_most w (links_of w))
 
+    -- what the look at it has left in the lent array
+    pub turn_has : (held picks : List (Option ℕ)) → picks ≡ picks_left w size held → Picks w picks
+    turn_has held picks f =
+        let first : AllHold (take 3 (slot_checks w size)) = (holds.0, (holds.1.0, (holds.1.1.0, tt))) in
+        record { sound = ran_sound; all = f ∙ all_passed (λ refusal. held) (take 3 (slot_checks w size)) (picks_to w (links_of w)) first }
+
   -- a refused one
   module _ {refusal : Refusal} (e : slot_turn w size ≡ Err refusal) where
     pub refused_store : slot_store w size ≡ w
@@ -54,26 +60,6 @@ module _ (w : Store) (size : ℕ) where
     refused_number =
         refused_one {A = Result (Unit {0}) Refusal} Err Refuses (λ m n f. cc) (slot_checks w size) (Ok tt) refusal
         (inl refl, (inr (inl refl), (inr (inr refl), (inl refl, tt)))) (λ f. absurd cc) e
-
-  -- the answer of the look at the slot: it is refused as the slot is, or it has what the links pick, and the slot runs
-  pub turn_refused : {refusal : Refusal} → Err refusal ≡ turn_picks w size → slot_turn w size ≡ Err refusal
-  unfolding slot_turn
-  turn_refused {refusal} e =
-      refused_as Err Err (λ m n f. cc) (slot_checks w size) (Ok (picks_to w (links_of w))) (Ok tt) refusal (λ f. absurd cc) (sym e)
-
-  module _ {picks : List (Option ℕ)} (e : Ok picks ≡ turn_picks w size) where
-    passed : AllHold (slot_checks w size)
-    passed = accepted_all Err (slot_checks w size) (Ok (picks_to w (links_of w))) (Ok picks) (λ n f. absurd cc) (sym e)
-
-    pub turn_ran : slot_turn w size ≡ Ok tt
-    unfolding slot_turn
-    turn_ran = all_passed Err (slot_checks w size) (Ok tt) passed
-
-    pub turn_has : Picks w picks
-    turn_has = record {
-      sound = ran_sound turn_ran;
-      all = let f = all_passed Err (slot_checks w size) (Ok (picks_to w (links_of w))) passed in cc;
-    }
 
   -- either way the sends have room
   pub sent_fits : 5 * length (slot_sent w size) ≤ size

@@ -5,6 +5,7 @@
 ghost use Rattle.std.specs.Prelude.{◌≡◌, length};
 ghost use Rattle.slot_rules.specs.Slot.{numbers, slot_number, slot_place, slot_sent, slot_store, slot_out};
 
+use kinds::Network;
 use slot_pick::Picked;
 
 // Runs a slot, or refuses and leaves the store and the output alone: how many packets were sent. The sends stand at the front of
@@ -16,8 +17,9 @@ pub fn run(store: &mut [u64], out: &mut [u64], number: &mut u64, place: &mut u64
     ensures number_after { number.new ≡ slot_number store.old (length out.old) }
     ensures place_after { place.new ≡ slot_place store.old (length out.old) }
 {
-    match slot_checks::turn(store, out.len()) {
-        Ok(picks) => {
+    let mut picks = [None; Network::MOST_LINKS];
+    match slot_checks::turn(store, out.len(), &mut picks) {
+        Ok(()) => {
             *number = 0;
             *place = 0;
             let sends = slot_move::report(&Picked::new(store, &picks), out);

@@ -1,4 +1,4 @@
-// Whether a slot runs: document 01, "A slot", and refusals 17, 14 and 15. Nothing is written.
+// Whether a slot runs: document 01, "A slot", and refusals 17, 14 and 15. Nothing is written but the picks.
 #![tactic(auto)]
 
 ghost use Rattle.std.specs.Prelude.{◌≡◌, ◌<◌};
@@ -6,7 +6,7 @@ ghost use Rattle.store.specs.Layout.{links_of, hops_of, IsChannel};
 ghost use Rattle.folds.specs.Folds.{every};
 ghost use Rattle.slot_keeps.specs.Room.{leaves as leaves_at, takes_packet, room_after};
 ghost use Rattle.slot_rules.specs.Slot.{slot_turn};
-ghost use Rattle.slot_checks.specs.Turn.{turn_picks, without_picks};
+ghost use Rattle.slot_checks.specs.Left.{picks_left};
 
 use kinds::{Network, Refusal, Slot};
 use slot_pick::Picked;
@@ -62,12 +62,16 @@ fn fits(picked: &Picked) -> bool
     (0..picked.store().links()).all(|l| room_after(picked, l))
 }
 
-// What the links have picked, where the slot runs; or why it does not: checks 17, 14, 15 and 17, in this order. The output has
-// `size` numbers.
+// How a slot ends, where the output has `size` numbers: checks 17, 14, 15 and 17, in this order. Once the first three are passed,
+// `picks` are what the links have picked. They are lent, since in the answer they would be copied twice.
 #[tactic(auto, using(slot_rules::proofs::Laws::Ready::ready, slot_keeps::proofs::Sound::moved_sound), unfolding(slot_rules::specs::Slot::slot_turn, checks::specs::Checks::first_failed))]
-pub fn turn(store: &[u64], size: usize) -> Result<[Option<usize>; Network::MOST_LINKS], Refusal>
-    ensures picked { result ≡ turn_picks store.now size }
-    ensures turned { without_picks result ≡ slot_turn store.now size }
+pub fn turn(
+    store: &[u64],
+    size: usize,
+    picks: &mut [Option<usize>; Network::MOST_LINKS],
+) -> Result<(), Refusal>
+    ensures value { result ≡ slot_turn store.now size }
+    ensures picks_after { picks.new ≡ picks_left store.now size picks.old }
 {
     let sound = sound::check(store).ok_or(Refusal::NotSound)?;
     if sound.clock() >= Slot::END {
@@ -76,9 +80,9 @@ pub fn turn(store: &[u64], size: usize) -> Result<[Option<usize>; Network::MOST_
     if size < 5 * sound.links() {
         return Err(Refusal::OutShort);
     }
-    let picks = slot_pick::picks(&sound);
-    if !fits(&Picked::new(store, &picks)) {
+    *picks = slot_pick::picks(&sound);
+    if !fits(&Picked::new(store, picks)) {
         return Err(Refusal::NotSound);
     }
-    Ok(picks)
+    Ok(())
 }

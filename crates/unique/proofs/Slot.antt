@@ -18,7 +18,7 @@ use Rattle.slot.proofs as slot_proofs
 use Rattle.slot_wait.specs.contracts as slot_wait
 use Rattle.slot_wait.proofs as slot_wait_proofs
 use Rattle.unique.specs.Unique.{Permitted, Unique}
-use Rattle.unique.proofs.Shapes.{whole, ◌&◌, answer, more, first, second, third, fourth}
+use Rattle.unique.proofs.Shapes.{whole, ◌&◌, answer, first, second, third, fourth}
 
 pub slot_packet_message : Unique slot_packet.message.ended slot_packet_proofs.message.Reads.Post
 slot_packet_message κs a = whole answer
@@ -48,7 +48,7 @@ pub slot_move_move_on : Unique slot_move.move_on.ended slot_move_proofs.move_on.
 slot_move_move_on κs a = whole first
 
 pub slot_checks_turn : Unique slot_checks.turn.ended slot_checks_proofs.turn.Reads.Post
-slot_checks_turn κs a = whole (answer & more)
+slot_checks_turn κs a = whole (answer & third)
 
 pub slot_run : Unique slot.run.ended slot_proofs.run.Reads.Post
 slot_run κs a = whole (answer & first & second & third & fourth)
