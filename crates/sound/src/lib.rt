@@ -83,7 +83,9 @@ fn all_listed(store: &Fitting) -> bool
     all_rows(store) == all_places(store)
 }
 
-// Whether the store is sound: any numbers, and any length.
+// Whether the store is sound: any numbers, and any length. Inlined into `check`, each of its tests would also set what that
+// answers.
+#[inline(never)]
 #[tactic(auto, unfolding(store::specs::Sound::sound_of))]
 pub fn is_sound(store: &[u64]) -> bool
     ensures { result ≡ sound_of store.now }
