@@ -47,7 +47,8 @@ pub fn read(text: &[u8], from: usize) -> Option<Number>
         value = extended(value, byte - b'0')?;
         end += 1;
     }
-    if end == from {
+    let empty = end == from;
+    if empty {
         return None;
     }
     Some(Number { value, end })

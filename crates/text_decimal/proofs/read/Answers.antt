@@ -30,18 +30,18 @@ loop-byte-preserved c =
     read_more _ _ _ _ _ _ c.loop-byte.invariant c.loop-byte-test.true c.if-byte-eq32.false (grind (arith, c.is_ascii_digit.ensures.value))
     _ (omega (arith, c.in_ok-value.ensures)) (omega (arith, c.in_ok-value.ensures))
 
-pub returns-then-end-from : goal.returns-then-end-from
-returns-then-end-from c =
+pub returns-then-empty : goal.returns-then-empty
+returns-then-empty c =
     elim c.loop-byte-test.branch [
-      | else-loop-byte-test w ↦ read_nothing _ _ _ _ _ _ c.loop-byte.invariant (inl w.loop-byte-test.false) c.if-end-from.true
+      | else-loop-byte-test w ↦ read_nothing _ _ _ _ _ _ c.loop-byte.invariant (inl w.loop-byte-test.false) c.if-empty.true
       | then-loop-byte-test+then-byte-eq32 w ↦
-          read_nothing _ _ _ _ _ _ c.loop-byte.invariant (inr (w.loop-byte-test.true, w.if-byte-eq32.true)) c.if-end-from.true
+          read_nothing _ _ _ _ _ _ c.loop-byte.invariant (inr (w.loop-byte-test.true, w.if-byte-eq32.true)) c.if-empty.true
     ]
 
 pub returns : goal.returns
 returns c =
     elim c.loop-byte-test.branch [
-      | else-loop-byte-test w ↦ read_value _ _ _ _ _ _ c.loop-byte.invariant (inl w.loop-byte-test.false) c.if-end-from.false
+      | else-loop-byte-test w ↦ read_value _ _ _ _ _ _ c.loop-byte.invariant (inl w.loop-byte-test.false) c.if-empty.false
       | then-loop-byte-test+then-byte-eq32 w ↦
-          read_value _ _ _ _ _ _ c.loop-byte.invariant (inr (w.loop-byte-test.true, w.if-byte-eq32.true)) c.if-end-from.false
+          read_value _ _ _ _ _ _ c.loop-byte.invariant (inr (w.loop-byte-test.true, w.if-byte-eq32.true)) c.if-empty.false
     ]
